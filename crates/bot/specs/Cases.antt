@@ -1,0 +1,47 @@
+-- Document 01's "The thirteen meetings of host and device"; the number in brackets is the case of BOT 6.7.
+use Prim.Native.Nat.{ℕ}
+use lib.Dec.{eqb, ltb}
+use Rattle.wire.specs.Choice.{if_then_else_}
+use Rattle.bot.specs.declared.cases.Transfer.{Transfer}
+use Rattle.bot.specs.declared.cases.Transfer.the-variants.{None, In, Out}
+use Rattle.bot.specs.declared.cases.Pipe.{Pipe}
+use Rattle.bot.specs.declared.cases.Pipe.the-variants as pipe
+use Rattle.bot.specs.declared.cases.Halt.{Halt}
+use Rattle.bot.specs.declared.cases.Halt.the-variants as halt
+use Rattle.bot.specs.declared.cases.Ending.the-variants.{Command, PhaseError}
+use Rattle.bot.specs.declared.cases.Case.{Case}
+
+-- "status 0 or 1": the command's own; and "status 2".
+abbrev pub plain : Transfer → Halt → Case
+plain t h = record { moves = t; halt = h; ending = Command }
+
+abbrev pub phaseError : Halt → Case
+phaseError h = record { moves = None; halt = h; ending = PhaseError }
+
+-- Both sides name this pipe: the device has less than is announced, equal, or more.
+unfoldable pub sameWay : Pipe → ℕ → ℕ → Transfer → Case
+sameWay p announced has t =
+    if ltb has announced then plain t (halt.AfterData p)
+    else (if eqb has announced then plain t halt.None
+    else phaseError (halt.AtOnce p))
+
+-- "0 bytes count as none"; a direction is ignored at length 0.
+unfoldable pub counted : Transfer → Transfer
+counted None = None
+counted (In n) = if eqb n 0 then None else In n
+counted (Out n) = if eqb n 0 then None else Out n
+
+-- Host announces, device has, what follows.
+unfoldable pub meeting : Transfer → Transfer → Case
+meeting None None = plain None halt.None
+meeting None (In d) = phaseError halt.None
+meeting None (Out d) = phaseError halt.None
+meeting (In h) None = plain None (halt.AtOnce pipe.In)
+meeting (In h) (In d) = sameWay pipe.In h d (In d)
+meeting (In h) (Out d) = phaseError (halt.AtOnce pipe.In)
+meeting (Out h) None = plain None (halt.AtOnce pipe.Out)
+meeting (Out h) (In d) = phaseError (halt.AtOnce pipe.Out)
+meeting (Out h) (Out d) = sameWay pipe.Out h d (Out d)
+
+unfoldable pub caseOf : Transfer → Transfer → Case
+caseOf host device = meeting (counted host) (counted device)

@@ -1,0 +1,5 @@
+pub mod Answer
+pub mod Cbw
+pub mod Csw
+pub mod Cases
+pub mod Claims

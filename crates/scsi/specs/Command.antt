@@ -1,0 +1,103 @@
+-- What the device has for a command (document 01, "Commands"): one row for each operation code.
+use Prim.Native.Nat.{ℕ, _+_}
+use mathlib.Core.Bool.{Bool, true}
+use mathlib.Core.List.{List, [], _∷_}
+use lib.Dec.{eqb, leb, ltb}
+use Rattle.wire.specs.Choice.{if_then_else_, _and_, Row, row, look}
+use Rattle.wire.specs.Slices.{byteAt, bytesAt}
+use Rattle.wire.specs.Numbers.{big}
+use Rattle.wire.specs.Bits.{clear}
+use Rattle.scsi.specs.declared.command.Plan.{Plan}
+use Rattle.scsi.specs.declared.command.Plan.the-variants.{Failed, Nothing, Reply, Read, Write}
+use Rattle.scsi.specs.declared.reply.ReplyKind.{ReplyKind}
+use Rattle.scsi.specs.declared.reply.ReplyKind.the-variants as kind
+use Rattle.scsi.specs.Sense.{invalidCode, invalidField, outOfRange}
+
+-- A code's block length, its rule on the block's fields, and what a unit of so many blocks has for it.
+pub record Command : Type 0 where
+  pub size : ℕ
+  pub fields : List ℕ → Bool
+  pub has : ℕ → List ℕ → Plan
+
+abbrev pub command : ℕ → (List ℕ → Bool) → (ℕ → List ℕ → Plan) → Command
+command n rule plan = record { size = n; fields = rule; has = plan }
+
+-- "send at most byte 4 bytes"
+unfoldable pub cut : ReplyKind → ℕ → List ℕ → Plan
+cut k n b = if ltb (byteAt b 4) n then Reply k (byteAt b 4) else Reply k n
+
+-- "Block address in bytes 2 to 5, count in 7 to 8, big endian"
+abbrev pub address : List ℕ → ℕ
+address b = big (bytesAt 4 2 b)
+
+abbrev pub count : List ℕ → ℕ
+count b = big (bytesAt 2 7 b)
+
+-- "address plus count must not pass the number of blocks, count 0 included"
+unfoldable pub within : ℕ → List ℕ → Plan → Plan
+within blocks b p = if leb (address b + count b) blocks then p else Failed outOfRange
+
+-- "byte 1 bits 5 to 7 clear", of every command on blocks
+abbrev pub unflagged : List ℕ → Bool
+unflagged b = clear 5 7 (byteAt b 1)
+
+unfoldable pub rangedOf : ℕ → List ℕ → Plan → Plan
+rangedOf blocks b p = if unflagged b then within blocks b p else Failed invalidField
+
+-- The table's rows (SPC-3, 6; SBC-2, 5).
+abbrev pub testUnitReady : Command
+testUnitReady = command 6 (λ b. true) (λ n b. Nothing)
+
+abbrev pub requestSense : Command
+requestSense = command 6 (λ b. clear 0 0 (byteAt b 1)) (λ n b. cut kind.Sense 18 b)
+
+abbrev pub inquiry : Command
+inquiry = command 6 (λ b. clear 0 0 (byteAt b 1) and eqb (byteAt b 2) 0) (λ n b. cut kind.Inquiry 36 b)
+
+abbrev pub modeSense : Command
+modeSense = command 6 (λ b. eqb (byteAt b 2) 0x3F) (λ n b. cut kind.ModeSense 4 b)
+
+abbrev pub preventAllow : Command
+preventAllow = command 6 (λ b. clear 0 0 (byteAt b 4)) (λ n b. Nothing)
+
+abbrev pub readCapacity : Command
+readCapacity = command 10 (λ b. true) (λ n b. Reply kind.Capacity 8)
+
+abbrev pub read10 : Command
+read10 = command 10 (λ b. unflagged b) (λ n b. within n b (Read (address b) (count b)))
+
+abbrev pub write10 : Command
+write10 = command 10 (λ b. unflagged b) (λ n b. within n b (Write (address b) (count b)))
+
+abbrev pub verify10 : Command
+verify10 = command 10 (λ b. clear 1 1 (byteAt b 1) and unflagged b) (λ n b. within n b Nothing)
+
+-- "An operation code not in this table fails with 05/20/00"; its block has at least the code.
+abbrev pub unknown : Command
+unknown = command 1 (λ b. true) (λ n b. Failed invalidCode)
+
+unfoldable pub commands : List (Row Command)
+commands =
+    row 0x00 testUnitReady
+    ∷ row 0x03 requestSense
+    ∷ row 0x12 inquiry
+    ∷ row 0x1A modeSense
+    ∷ row 0x1E preventAllow
+    ∷ row 0x25 readCapacity
+    ∷ row 0x28 read10
+    ∷ row 0x2A write10
+    ∷ row 0x2F verify10
+    ∷ []
+
+unfoldable pub commandOf : ℕ → Command
+commandOf code = look commands code unknown
+
+unfoldable pub blockLength : ℕ → ℕ
+blockLength code = commandOf code .size
+
+-- "Checks: code, fields, range."
+unfoldable pub planBy : Command → ℕ → List ℕ → Plan
+planBy c blocks b = if c .fields b then c .has blocks b else Failed invalidField
+
+unfoldable pub planOf : List ℕ → ℕ → Plan
+planOf b blocks = planBy (commandOf (byteAt b 0)) blocks b

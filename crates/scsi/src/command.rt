@@ -1,0 +1,158 @@
+// The command reader: a command block, read where it stands, and the number of blocks give what the device has for it.
+ghost use mathlib.Core.Path.{_≡_};
+ghost use Rattle.scsi.specs.Command.{blockLength, planOf, planBy, cut, rangedOf};
+ghost use Rattle.scsi.specs.Command.{requestSense, inquiry, modeSense, preventAllow, read10, write10, verify10};
+use crate::reply::ReplyKind;
+use crate::sense::Sense;
+use wire::fields::be16;
+use wire::fields::be32;
+use wire::slices::byte;
+
+// What the device has for a command.
+pub enum Plan {
+    // It fails, with this sense, and has no data.
+    Failed(Sense),
+    // It passes, and has no data.
+    Nothing,
+    // A reply, cut to the allocation length.
+    Reply { kind: ReplyKind, size: u8 },
+    // Blocks of the medium, to the host or from it.
+    Read { block: u32, count: u16 },
+    Write { block: u32, count: u16 },
+}
+
+// How many bytes of a command block its code needs.
+pub fn block_length(code: u8) -> u8
+    ensures { λ r. ⌜ r ≡ blockLength code ⌝ }
+{
+    match code {
+        0x00 | 0x03 | 0x12 | 0x1A | 0x1E => 6,
+        0x25 | 0x28 | 0x2A | 0x2F => 10,
+        _ => 1,
+    }
+}
+
+pub fn plan_of(block: &[u8], blocks: u32) -> Plan
+    ensures { λ r. ⌜ r ≡ planOf (now (block .entry)) blocks ⌝ }
+{
+    let code = byte(block, 0);
+    match code {
+        0x00 => Plan::Nothing,
+        0x03 => request_sense(block, blocks),
+        0x12 => inquiry(block, blocks),
+        0x1A => mode_sense(block, blocks),
+        0x1E => prevent_allow(block, blocks),
+        0x25 => Plan::Reply {
+            kind: ReplyKind::Capacity,
+            size: 8,
+        },
+        0x28 => read10(block, blocks),
+        0x2A => write10(block, blocks),
+        0x2F => verify10(block, blocks),
+        _ => Plan::Failed(Sense::INVALID_CODE),
+    }
+}
+
+// A reply of at most byte 4 bytes, the allocation length.
+fn reply(kind: ReplyKind, size: u8, block: &[u8]) -> Plan
+    ensures { λ r. ⌜ r ≡ cut kind size (now (block .entry)) ⌝ }
+{
+    let allocated = byte(block, 4);
+    if allocated < size {
+        return Plan::Reply {
+            kind,
+            size: allocated,
+        };
+    }
+    Plan::Reply { kind, size }
+}
+
+// A command on blocks has what is given, if its flags are clear and its blocks lie in the unit.
+// The sum is taken in 64 bits: it may pass the largest u32.
+fn ranged(block: &[u8], blocks: u32, given: Plan) -> Plan
+    ensures { λ r. ⌜ r ≡ rangedOf blocks (now (block .entry)) given ⌝ }
+{
+    if byte(block, 1) & 0xE0 != 0 {
+        return Plan::Failed(Sense::INVALID_FIELD);
+    }
+    let first = be32(block, 2);
+    let count = be16(block, 7);
+    if (blocks as u64) < (first as u64) + (count as u64) {
+        return Plan::Failed(Sense::OUT_OF_RANGE);
+    }
+    given
+}
+
+fn request_sense(block: &[u8], blocks: u32) -> Plan
+    ensures { λ r. ⌜ r ≡ planBy requestSense blocks (now (block .entry)) ⌝ }
+{
+    if byte(block, 1) & 0x01 != 0 {
+        return Plan::Failed(Sense::INVALID_FIELD);
+    }
+    reply(ReplyKind::Sense, 18, block)
+}
+
+fn inquiry(block: &[u8], blocks: u32) -> Plan
+    ensures { λ r. ⌜ r ≡ planBy inquiry blocks (now (block .entry)) ⌝ }
+{
+    if byte(block, 1) & 0x01 != 0 {
+        return Plan::Failed(Sense::INVALID_FIELD);
+    }
+    if byte(block, 2) != 0 {
+        return Plan::Failed(Sense::INVALID_FIELD);
+    }
+    reply(ReplyKind::Inquiry, 36, block)
+}
+
+fn mode_sense(block: &[u8], blocks: u32) -> Plan
+    ensures { λ r. ⌜ r ≡ planBy modeSense blocks (now (block .entry)) ⌝ }
+{
+    if byte(block, 2) != 0x3F {
+        return Plan::Failed(Sense::INVALID_FIELD);
+    }
+    reply(ReplyKind::ModeSense, 4, block)
+}
+
+fn prevent_allow(block: &[u8], blocks: u32) -> Plan
+    ensures { λ r. ⌜ r ≡ planBy preventAllow blocks (now (block .entry)) ⌝ }
+{
+    if byte(block, 4) & 0x01 != 0 {
+        return Plan::Failed(Sense::INVALID_FIELD);
+    }
+    Plan::Nothing
+}
+
+fn read10(block: &[u8], blocks: u32) -> Plan
+    ensures { λ r. ⌜ r ≡ planBy read10 blocks (now (block .entry)) ⌝ }
+{
+    ranged(
+        block,
+        blocks,
+        Plan::Read {
+            block: be32(block, 2),
+            count: be16(block, 7),
+        },
+    )
+}
+
+fn write10(block: &[u8], blocks: u32) -> Plan
+    ensures { λ r. ⌜ r ≡ planBy write10 blocks (now (block .entry)) ⌝ }
+{
+    ranged(
+        block,
+        blocks,
+        Plan::Write {
+            block: be32(block, 2),
+            count: be16(block, 7),
+        },
+    )
+}
+
+fn verify10(block: &[u8], blocks: u32) -> Plan
+    ensures { λ r. ⌜ r ≡ planBy verify10 blocks (now (block .entry)) ⌝ }
+{
+    if byte(block, 1) & 0x02 != 0 {
+        return Plan::Failed(Sense::INVALID_FIELD);
+    }
+    ranged(block, blocks, Plan::Nothing)
+}

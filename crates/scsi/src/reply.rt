@@ -1,0 +1,81 @@
+// The bytes of the replies. A reply is named by its kind and the values found at the wrapper; its bytes are made when asked for.
+ghost use mathlib.Core.Path.{_≡_};
+ghost use Prim.Native.Nat.{_-_};
+ghost use Rattle.scsi.specs.Reply.{replyPacket, senseData, inquiryData, capacityData};
+use crate::sense::Sense;
+use wire::fields::put_be32;
+use wire::packet::Packet;
+use wire::packet::packet_of;
+use wire::slices::put;
+use wire::texts::PRODUCT;
+use wire::texts::VENDOR;
+
+pub enum ReplyKind {
+    Sense,
+    Inquiry,
+    ModeSense,
+    Capacity,
+}
+
+pub enum Reply {
+    Sense(Sense),
+    Inquiry,
+    ModeSense,
+    Capacity { blocks: u32 },
+}
+
+pub fn reply_bytes(reply: Reply) -> Packet
+    ensures { λ r. ⌜ r ≡ replyPacket reply ⌝ }
+{
+    match reply {
+        Reply::Sense(sense) => packet_of(&sense_data(sense)),
+        Reply::Inquiry => packet_of(&inquiry_data()),
+        Reply::ModeSense => packet_of(&[0x03, 0x00, 0x00, 0x00]),
+        Reply::Capacity { blocks } => packet_of(&capacity_data(blocks)),
+    }
+}
+
+fn sense_data(sense: Sense) -> [u8; 18]
+    ensures { λ r. ⌜ r ≡ senseData sense ⌝ }
+{
+    let mut data = [0; 18];
+    data[0] = 0x70;
+    data[2] = sense.key;
+    data[7] = 0x0A;
+    data[12] = sense.asc;
+    data[13] = sense.ascq;
+    data
+}
+
+fn inquiry_data() -> [u8; 36]
+    ensures { λ r. ⌜ r ≡ inquiryData ⌝ }
+{
+    let vendor = VENDOR;
+    let product = PRODUCT;
+    let mut data = [0x20; 36];
+    put(
+        &mut data,
+        0,
+        &[0x00, 0x80, 0x05, 0x02, 0x1F, 0x00, 0x00, 0x00],
+    );
+    put(&mut data, 8, &vendor);
+    put(&mut data, 16, &product);
+    put(&mut data, 32, b"0100");
+    data
+}
+
+// The last block's number, not the count; a unit of no blocks has none, and 0 stands for it.
+fn last_block(blocks: u32) -> u32
+    ensures { λ r. ⌜ r ≡ blocks - 1 ⌝ }
+{
+    if blocks == 0 { 0 } else { blocks - 1 }
+}
+
+fn capacity_data(blocks: u32) -> [u8; 8]
+    ensures { λ r. ⌜ r ≡ capacityData blocks ⌝ }
+{
+    let mut data = [0; 8];
+    put_be32(&mut data, 0, last_block(blocks));
+    put_be32(&mut data, 4, 512);
+    data
+}

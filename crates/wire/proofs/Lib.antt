@@ -1,0 +1,4 @@
+pub mod Cases
+pub mod Lists
+pub mod Positional
+pub mod Masks
