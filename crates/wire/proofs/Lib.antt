@@ -2,3 +2,4 @@ pub mod Cases
 pub mod Lists
 pub mod Positional
 pub mod Masks
+pub mod Packets

@@ -6,167 +6,129 @@ use Rattle.bot.specs.Cases.{counted, meeting, caseOf}
 use borrow.Author.Needs.{needs}
 use Rattle.bot.proofs.cases.case_of.Statement.{statement}
 use Rattle.bot.proofs.cases.case_of.Tie as tie
-use Rattle.bot.proofs.cases.case_of.Reads as reads
-use Rattle.bot.proofs.cases.case_of.Lts as lts
-use Rattle.bot.proofs.cases.count_of.Reads as count-of-reads
-use Rattle.bot.proofs.cases.phase_error.Reads as phase-error-reads
-use Rattle.bot.proofs.cases.plain.Reads as plain-reads
-use Rattle.bot.proofs.cases.same_way.Reads as same-way-reads
 
 -- what the arm gives is the table's row of both sides
 row : (host device : Transfer) {h d x y : Transfer} {r : Case} → h ≡ counted host → h ≡ x → d ≡ counted device → d ≡ y → r ≡ meeting x y → r ≡ caseOf host device
 unfolding caseOf
 row host device eh ex ed ey e = e ∙ ap₂ meeting (sym ex ∙ eh) (sym ey ∙ ed)
 
--- src/cases.rt:93:9
 count-of-requires : tie.Need-count-of-requires
 count-of-requires c κs = search needs
 
--- src/cases.rt:94:9
 count-of-requires-2 : tie.Need-count-of-requires-2
 count-of-requires-2 c κs = search needs
 
--- src/cases.rt:96:27
 enum-told : tie.Need-enum-told
 enum-told c = search needs
 
--- src/cases.rt:97:37
 enum-told-2 : tie.Need-enum-told-2
 enum-told-2 c = search needs
 
--- src/cases.rt:97:31
 plain-requires : tie.Need-plain-requires
 plain-requires c κs = search needs
 
--- src/cases.rt:98:44
 enum-told-3 : tie.Need-enum-told-3
 enum-told-3 c = search needs
 
--- src/cases.rt:98:32
 phase-error-requires : tie.Need-phase-error-requires
 phase-error-requires c κs = search needs
 
--- src/cases.rt:99:45
 enum-told-4 : tie.Need-enum-told-4
 enum-told-4 c = search needs
 
--- src/cases.rt:99:33
 phase-error-requires-2 : tie.Need-phase-error-requires-2
 phase-error-requires-2 c κs = search needs
 
--- src/cases.rt:101:22
 enum-known-announced : tie.Need-enum-known-announced
 enum-known-announced c = search needs
 
--- src/cases.rt:102:37
 enum-told-5 : tie.Need-enum-told-5
 enum-told-5 c = search needs
 
--- src/cases.rt:102:31
 plain-requires-2 : tie.Need-plain-requires-2
 plain-requires-2 c κs = search needs
 
--- src/cases.rt:103:26
 enum-known-has : tie.Need-enum-known-has
 enum-known-has c = search needs
 
--- src/cases.rt:103:32
 same-way-requires : tie.Need-same-way-requires
 same-way-requires c κs = search needs
 
--- src/cases.rt:104:58
 enum-told-6 : tie.Need-enum-told-6
 enum-told-6 c = search needs
 
--- src/cases.rt:104:33
 phase-error-requires-3 : tie.Need-phase-error-requires-3
 phase-error-requires-3 c κs = search needs
 
--- src/cases.rt:106:23
 enum-known-announced-2 : tie.Need-enum-known-announced-2
 enum-known-announced-2 c = search needs
 
--- src/cases.rt:107:37
 enum-told-7 : tie.Need-enum-told-7
 enum-told-7 c = search needs
 
--- src/cases.rt:107:31
 plain-requires-3 : tie.Need-plain-requires-3
 plain-requires-3 c κs = search needs
 
--- src/cases.rt:108:57
 enum-told-8 : tie.Need-enum-told-8
 enum-told-8 c = search needs
 
--- src/cases.rt:108:32
 phase-error-requires-4 : tie.Need-phase-error-requires-4
 phase-error-requires-4 c κs = search needs
 
--- src/cases.rt:109:27
 enum-known-has-2 : tie.Need-enum-known-has-2
 enum-known-has-2 c = search needs
 
--- src/cases.rt:109:33
 same-way-requires-2 : tie.Need-same-way-requires-2
 same-way-requires-2 c κs = search needs
 
--- src/cases.rt:90:1
 returns : tie.Need-returns
 unfolding caseOf meeting
 returns c =
     let a = c .before .before .before .before .before .before .before .args in
     row (a .host) (a .device) (c .before .before .before .before .before .before .count-of .ensures) (c .before .before .before .enum-told .given .1) (c .before .before .before .before .before .count-of2 .ensures) (c .before .enum-told2 .given .1) (c .plain .ensures)
 
--- src/cases.rt:90:1
 returns-2 : tie.Need-returns-2
 unfolding caseOf meeting
 returns-2 c =
     let a = c .before .before .before .before .before .before .before .args in
     row (a .host) (a .device) (c .before .before .before .before .before .before .count-of .ensures) (c .before .before .before .enum-told .given .1) (c .before .before .before .before .before .count-of2 .ensures) (c .before .enum-told3 .given .1) (c .phase-error .ensures)
 
--- src/cases.rt:90:1
 returns-3 : tie.Need-returns-3
 unfolding caseOf meeting
 returns-3 c =
     let a = c .before .before .before .before .before .before .before .args in
     row (a .host) (a .device) (c .before .before .before .before .before .before .count-of .ensures) (c .before .before .before .enum-told .given .1) (c .before .before .before .before .before .count-of2 .ensures) (c .before .enum-told4 .given .1) (c .phase-error2 .ensures)
 
--- src/cases.rt:90:1
 returns-4 : tie.Need-returns-4
 unfolding caseOf meeting
 returns-4 c =
     let a = c .before .before .before .before .before .before .before .before .args in
     row (a .host) (a .device) (c .before .before .before .before .before .before .before .count-of .ensures) (c .before .before .before .before .announced .given .1) (c .before .before .before .before .before .before .count-of2 .ensures) (c .before .enum-told5 .given .1) (c .plain2 .ensures)
 
--- src/cases.rt:90:1
 returns-5 : tie.Need-returns-5
 unfolding caseOf meeting
 returns-5 c =
     let a = c .before .before .before .before .before .before .before .before .before .args in
     row (a .host) (a .device) (c .before .before .before .before .before .before .before .before .count-of .ensures) (c .before .before .before .before .before .announced .given .1) (c .before .before .before .before .before .before .before .count-of2 .ensures) (c .before .before .has .given .1) (c .same-way .ensures)
 
--- src/cases.rt:90:1
 returns-6 : tie.Need-returns-6
 unfolding caseOf meeting
 returns-6 c =
     let a = c .before .before .before .before .before .before .before .before .args in
     row (a .host) (a .device) (c .before .before .before .before .before .before .before .count-of .ensures) (c .before .before .before .before .announced .given .1) (c .before .before .before .before .before .before .count-of2 .ensures) (c .before .enum-told6 .given .1) (c .phase-error3 .ensures)
 
--- src/cases.rt:90:1
 returns-7 : tie.Need-returns-7
 unfolding caseOf meeting
 returns-7 c =
     let a = c .before .before .before .before .before .before .before .before .args in
     row (a .host) (a .device) (c .before .before .before .before .before .before .before .count-of .ensures) (c .before .before .before .before .announced2 .given .1) (c .before .before .before .before .before .before .count-of2 .ensures) (c .before .enum-told7 .given .1) (c .plain3 .ensures)
 
--- src/cases.rt:90:1
 returns-8 : tie.Need-returns-8
 unfolding caseOf meeting
 returns-8 c =
     let a = c .before .before .before .before .before .before .before .before .args in
     row (a .host) (a .device) (c .before .before .before .before .before .before .before .count-of .ensures) (c .before .before .before .before .announced2 .given .1) (c .before .before .before .before .before .before .count-of2 .ensures) (c .before .enum-told8 .given .1) (c .phase-error4 .ensures)
 
--- src/cases.rt:90:1
 returns-9 : tie.Need-returns-9
 unfolding caseOf meeting
 returns-9 c =

@@ -1,7 +1,7 @@
 -- `cbw_bytes` meets its contract. Assumes nothing.
 use Prim.Native.Nat.{ℕ}
 use mathlib.Core.Path.{_≡_, _∙_}
-use mathlib.Core.List.{List, [], _∷_, _++_, append-nil}
+use mathlib.Core.List.{List, _∷_, _++_, append-nil}
 use lib.ListN.{length}
 use Rattle.wire.specs.Choice.{if_then_else_}
 use Rattle.wire.specs.Numbers.{low, littleBytes}
@@ -10,11 +10,6 @@ use Rattle.bot.specs.Cbw.{cbwSignature, cbwBytes, direction}
 use borrow.Author.Needs.{needs}
 use Rattle.bot.proofs.cbw.cbw_bytes.Statement.{statement}
 use Rattle.bot.proofs.cbw.cbw_bytes.Tie as tie
-use Rattle.bot.proofs.cbw.cbw_bytes.Reads as reads
-use Rattle.bot.proofs.cbw.cbw_bytes.Lts as lts
-use Rattle.bot.proofs.cbw.direction_byte.Reads as direction-byte-reads
-use Rattle.wire.proofs.fields.put_le32.Reads as put-le32-reads
-use Rattle.wire.proofs.slices.put.Reads as put-reads
 
 -- the block, put behind the fields
 whole : (tag announced way lun size : ℕ) (block : List ℕ) → length block ≡ 16
@@ -23,63 +18,48 @@ whole : (tag announced way lun size : ℕ) (block : List ℕ) → length block �
 unfolding placed fits zeros low if_then_else_
 whole tag announced way lun size block n = rw n (append-nil (cbwSignature ++ littleBytes 4 tag ++ littleBytes 4 announced ++ way ∷ lun ∷ size ∷ block))
 
--- src/cbw.rt:119:9
 slice-aggregate-put : tie.Need-slice-aggregate-put
 slice-aggregate-put c = search needs
 
--- src/cbw.rt:119:24
 slice-aggregate-put-2 : tie.Need-slice-aggregate-put-2
 slice-aggregate-put-2 c = search needs
 
--- src/cbw.rt:119:5
 put-requires : tie.Need-put-requires
 put-requires c κs = search needs
 
--- src/cbw.rt:120:14
 slice-aggregate-put-le32 : tie.Need-slice-aggregate-put-le32
 slice-aggregate-put-le32 c = search needs
 
--- src/cbw.rt:120:5
 put-le32-requires : tie.Need-put-le32-requires
 put-le32-requires c κs = search needs
 
--- src/cbw.rt:121:14
 slice-aggregate-put-le32-2 : tie.Need-slice-aggregate-put-le32-2
 slice-aggregate-put-le32-2 c = search needs
 
--- src/cbw.rt:121:5
 put-le32-requires-2 : tie.Need-put-le32-requires-2
 put-le32-requires-2 c κs = search needs
 
--- src/cbw.rt:122:17
 direction-byte-requires : tie.Need-direction-byte-requires
 direction-byte-requires c κs = search needs
 
--- src/cbw.rt:122:5
 array-write-bytes : tie.Need-array-write-bytes
 array-write-bytes c = search needs
 
--- src/cbw.rt:123:5
 array-write-bytes-2 : tie.Need-array-write-bytes-2
 array-write-bytes-2 c = search needs
 
--- src/cbw.rt:124:5
 array-write-bytes-3 : tie.Need-array-write-bytes-3
 array-write-bytes-3 c = search needs
 
--- src/cbw.rt:125:9
 slice-aggregate-put-3 : tie.Need-slice-aggregate-put-3
 slice-aggregate-put-3 c = search needs
 
--- src/cbw.rt:125:25
 slice-aggregate-put-4 : tie.Need-slice-aggregate-put-4
 slice-aggregate-put-4 c = search needs
 
--- src/cbw.rt:125:5
 put-requires-2 : tie.Need-put-requires-2
 put-requires-2 c κs = search needs
 
--- src/cbw.rt:113:1
 returns : tie.Need-returns
 unfolding cbwBytes placed fits zeros low if_then_else_
 returns c =

@@ -1,17 +1,12 @@
 -- `direction_byte` meets its contract. Assumes nothing.
-use mathlib.Core.Path.{refl}
 use Rattle.bot.specs.Cbw.{direction}
 use Rattle.bot.proofs.cbw.direction_byte.Statement.{statement}
 use Rattle.bot.proofs.cbw.direction_byte.Tie as tie
-use Rattle.bot.proofs.cbw.direction_byte.Reads as reads
-use Rattle.bot.proofs.cbw.direction_byte.Lts as lts
 
--- src/cbw.rt:107:1
 returns : tie.Need-returns
 unfolding direction
 returns c = simp (c .if1 .taken)
 
--- src/cbw.rt:107:1
 returns-2 : tie.Need-returns-2
 unfolding direction
 returns-2 c = simp (c .if1 .left)

@@ -7,17 +7,13 @@ use Rattle.wire.proofs.Masks.{mask}
 use Rattle.bot.specs.Cbw.{inRange}
 use Rattle.bot.proofs.cbw.is_in_range.Statement.{statement}
 use Rattle.bot.proofs.cbw.is_in_range.Tie as tie
-use Rattle.bot.proofs.cbw.is_in_range.Reads as reads
-use Rattle.bot.proofs.cbw.is_in_range.Lts as lts
 
--- src/cbw.rt:42:9
 returns : tie.Need-returns
 unfolding inRange _and_
 returns c =
     simp (
     mask 0 6 (c .before .args .flags) (lit≤ tt) ∙ ne-eqb _ _ (c .if1 .taken))
 
--- src/cbw.rt:45:9
 returns-2 : tie.Need-returns-2
 unfolding inRange _and_
 returns-2 c =
@@ -26,7 +22,6 @@ returns-2 c =
       mask 4 7 (c .before .before .args .lun) (lit≤ tt) ∙ ne-eqb _ _ (c .if2 .taken),
     )
 
--- src/cbw.rt:48:9
 returns-3 : tie.Need-returns-3
 unfolding inRange _and_
 returns-3 c =
@@ -36,7 +31,6 @@ returns-3 c =
       mask 5 7 (c .before .before .before .args .size) (lit≤ tt) ∙ ne-eqb _ _ (c .if3 .taken),
     )
 
--- src/cbw.rt:51:9
 returns-4 : tie.Need-returns-4
 unfolding inRange _and_
 returns-4 c =
@@ -47,7 +41,6 @@ returns-4 c =
       lt-leb _ _ (c .if4 .taken),
     )
 
--- src/cbw.rt:38:1
 returns-5 : tie.Need-returns-5
 unfolding inRange _and_
 returns-5 c =

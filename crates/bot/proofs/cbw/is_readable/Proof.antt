@@ -6,47 +6,34 @@ use Rattle.bot.specs.Cbw.{readable}
 use borrow.Author.Needs.{needs}
 use Rattle.bot.proofs.cbw.is_readable.Statement.{statement}
 use Rattle.bot.proofs.cbw.is_readable.Tie as tie
-use Rattle.bot.proofs.cbw.is_readable.Reads as reads
-use Rattle.bot.proofs.cbw.is_readable.Lts as lts
-use Rattle.bot.proofs.cbw.is_in_range.Reads as is-in-range-reads
-use Rattle.wire.proofs.slices.starts_with.Reads as starts-with-reads
 
--- src/cbw.rt:60:9
 returns : tie.Need-returns
 unfolding readable _and_
 returns c = simp (ne-eqb _ _ (c .if1 .taken))
 
--- src/cbw.rt:62:28
 slice-aggregate-starts-with : tie.Need-slice-aggregate-starts-with
 slice-aggregate-starts-with c = search needs
 
--- src/cbw.rt:62:9
 starts-with-requires : tie.Need-starts-with-requires
 starts-with-requires c κs = search needs
 
--- src/cbw.rt:63:9
 returns-2 : tie.Need-returns-2
 unfolding readable _and_
 returns-2 c =
     simp (eq-eqb _ _ (c .before .before .before .if1 .left), sym (c .before .starts-with .ensures) ∙ not-true _ (c .if2 .taken))
 
--- src/cbw.rt:65:17
 shared-slice-read-is-in-range : tie.Need-shared-slice-read-is-in-range
 shared-slice-read-is-in-range c = search needs
 
--- src/cbw.rt:65:28
 shared-slice-read-is-in-range-2 : tie.Need-shared-slice-read-is-in-range-2
 shared-slice-read-is-in-range-2 c = search needs
 
--- src/cbw.rt:65:39
 shared-slice-read-is-in-range-3 : tie.Need-shared-slice-read-is-in-range-3
 shared-slice-read-is-in-range-3 c = search needs
 
--- src/cbw.rt:65:5
 is-in-range-requires : tie.Need-is-in-range-requires
 is-in-range-requires c κs = search needs
 
--- src/cbw.rt:56:1
 returns-3 : tie.Need-returns-3
 unfolding readable _and_
 returns-3 c =

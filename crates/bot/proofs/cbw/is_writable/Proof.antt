@@ -4,20 +4,15 @@ use Rattle.wire.specs.Choice.{_and_}
 use Rattle.bot.specs.Cbw.{writable}
 use Rattle.bot.proofs.cbw.is_writable.Statement.{statement}
 use Rattle.bot.proofs.cbw.is_writable.Tie as tie
-use Rattle.bot.proofs.cbw.is_writable.Reads as reads
-use Rattle.bot.proofs.cbw.is_writable.Lts as lts
 
--- src/cbw.rt:135:9
 returns : tie.Need-returns
 unfolding writable _and_
 returns c = simp (lt-leb _ _ (c .if1 .taken))
 
--- src/cbw.rt:138:9
 returns-2 : tie.Need-returns-2
 unfolding writable _and_
 returns-2 c = simp (le-leb _ _ (c .before .if1 .left), lt-leb _ _ (c .if2 .taken))
 
--- src/cbw.rt:129:1
 returns-3 : tie.Need-returns-3
 unfolding writable _and_
 returns-3 c = simp (le-leb _ _ (c .before .if1 .left), le-leb _ _ (c .if2 .left))

@@ -5,52 +5,39 @@ use lib.Dec.{lit≤}
 use lib.ListN.{length, getD}
 use borrow.Author.Tests.{not-true, not-false}
 use Rattle.wire.specs.Choice.{if_then_else_}
-use Rattle.wire.specs.Bits.{clear, bits}
 use Rattle.wire.proofs.Masks.{mask, low-bits}
 use Rattle.bot.specs.Cbw.{headerOf, headerRead}
 use Rattle.bot.proofs.Wrappers.{readable-long}
 use borrow.Author.Needs.{needs}
 use Rattle.bot.proofs.cbw.read_header.Statement.{statement}
 use Rattle.bot.proofs.cbw.read_header.Tie as tie
-use Rattle.bot.proofs.cbw.read_header.Reads as reads
-use Rattle.bot.proofs.cbw.read_header.Lts as lts
-use Rattle.bot.proofs.cbw.is_readable.Reads as is-readable-reads
-use Rattle.wire.proofs.fields.le32.Reads as le32-reads
 
 -- past the first test there are 31 bytes
 long : (c : tie.Else1) → length (c .before .before .before .args .bytes .now) ≡ 31
 long c = readable-long _ (sym (c .before .is-readable .ensures) ∙ not-false _ (c .if1 .left))
 
--- src/cbw.rt:66:9
 is-readable-requires : tie.Need-is-readable-requires
 is-readable-requires c κs = search needs
 
--- src/cbw.rt:67:9
 returns : tie.Need-returns
 unfolding headerRead if_then_else_
 returns c = simp (sym (c .before .is-readable .ensures) ∙ not-true _ (c .if1 .taken))
 
--- src/cbw.rt:70:14
 le32-requires : tie.Need-le32-requires
 le32-requires c κs = search needs
 
--- src/cbw.rt:71:20
 le32-requires-2 : tie.Need-le32-requires-2
 le32-requires-2 c κs = search needs
 
--- src/cbw.rt:72:17
 shared-slice-read-t7 : tie.Need-shared-slice-read-t7
 shared-slice-read-t7 c = let h = long (c .before .before .before) in omega arith
 
--- src/cbw.rt:73:14
 shared-slice-read-t10 : tie.Need-shared-slice-read-t10
 shared-slice-read-t10 c = let h = long (c .before .before .before .before) in omega arith
 
--- src/cbw.rt:74:15
 shared-slice-read-t13 : tie.Need-shared-slice-read-t13
 shared-slice-read-t13 c = let h = long (c .before .before .before .before .before) in omega arith
 
--- src/cbw.rt:63:1
 returns-2 : tie.Need-returns-2
 unfolding headerRead headerOf if_then_else_
 returns-2 c =

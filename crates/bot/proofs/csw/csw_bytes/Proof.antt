@@ -6,49 +6,34 @@ use Rattle.bot.specs.Csw.{cswBytes}
 use borrow.Author.Needs.{needs}
 use Rattle.bot.proofs.csw.csw_bytes.Statement.{statement}
 use Rattle.bot.proofs.csw.csw_bytes.Tie as tie
-use Rattle.bot.proofs.csw.csw_bytes.Reads as reads
-use Rattle.bot.proofs.csw.csw_bytes.Lts as lts
-use Rattle.bot.proofs.csw.Status.code.Reads as code-reads
-use Rattle.wire.proofs.fields.put_le32.Reads as put-le32-reads
-use Rattle.wire.proofs.slices.put.Reads as put-reads
 
--- src/csw.rt:45:9
 slice-aggregate-put : tie.Need-slice-aggregate-put
 slice-aggregate-put c = search needs
 
--- src/csw.rt:45:24
 slice-aggregate-put-2 : tie.Need-slice-aggregate-put-2
 slice-aggregate-put-2 c = search needs
 
--- src/csw.rt:45:5
 put-requires : tie.Need-put-requires
 put-requires c κs = search needs
 
--- src/csw.rt:46:14
 slice-aggregate-put-le32 : tie.Need-slice-aggregate-put-le32
 slice-aggregate-put-le32 c = search needs
 
--- src/csw.rt:46:5
 put-le32-requires : tie.Need-put-le32-requires
 put-le32-requires c κs = search needs
 
--- src/csw.rt:47:14
 slice-aggregate-put-le32-2 : tie.Need-slice-aggregate-put-le32-2
 slice-aggregate-put-le32-2 c = search needs
 
--- src/csw.rt:47:5
 put-le32-requires-2 : tie.Need-put-le32-requires-2
 put-le32-requires-2 c κs = search needs
 
--- src/csw.rt:48:17
 code-requires : tie.Need-code-requires
 code-requires c κs = search needs
 
--- src/csw.rt:48:5
 array-write-bytes : tie.Need-array-write-bytes
 array-write-bytes c = search needs
 
--- src/csw.rt:40:1
 returns : tie.Need-returns
 unfolding cswBytes placed fits if_then_else_ low
 returns c =

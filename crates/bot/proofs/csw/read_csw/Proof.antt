@@ -5,15 +5,10 @@ use lib.ListN.{getD}
 use borrow.Author.Tests.{eq-eqb, ne-eqb, not-true, not-false}
 use Rattle.wire.specs.Choice.{if_then_else_, _and_, look}
 use Rattle.wire.proofs.Cases.{look-rest}
-use Rattle.bot.specs.Csw.{Reading, shown, refusal, statuses, readCsw}
+use Rattle.bot.specs.Csw.{shown, refusal, statuses, readCsw}
 use borrow.Author.Needs.{needs}
 use Rattle.bot.proofs.csw.read_csw.Statement.{statement}
 use Rattle.bot.proofs.csw.read_csw.Tie as tie
-use Rattle.bot.proofs.csw.read_csw.Reads as reads
-use Rattle.bot.proofs.csw.read_csw.Lts as lts
-use Rattle.bot.proofs.csw.accepted.Reads as accepted-reads
-use Rattle.bot.proofs.csw.refused.Reads as refused-reads
-use Rattle.wire.proofs.slices.starts_with.Reads as starts-with-reads
 
 -- past both tests the status byte decides
 whole : (c : tie.After-shared-slice-known2)
@@ -25,69 +20,54 @@ at-status : (k : ℕ) (c : tie.After-shared-slice-known2)
     → let p = c .before .before .before .before .before .before .args .bytes .now in getD p 12 0 ≡ k → shown (look (statuses p) k refusal) ≡ readCsw p
 at-status k c e = let p = c .before .before .before .before .before .before .args .bytes .now in ap (λ (j : ℕ). shown (look (statuses p) j refusal)) (sym e) ∙ sym (whole c)
 
--- src/csw.rt:82:9
 refused-requires : tie.Need-refused-requires
 refused-requires c κs = search needs
 
--- src/csw.rt:82:9
 returns : tie.Need-returns
 unfolding readCsw if_then_else_ _and_
 returns c = simp (c .refused .ensures, ne-eqb _ _ (c .before .if1 .taken))
 
--- src/csw.rt:84:28
 slice-aggregate-starts-with : tie.Need-slice-aggregate-starts-with
 slice-aggregate-starts-with c = search needs
 
--- src/csw.rt:84:9
 starts-with-requires : tie.Need-starts-with-requires
 starts-with-requires c κs = search needs
 
--- src/csw.rt:85:9
 refused-requires-2 : tie.Need-refused-requires-2
 refused-requires-2 c κs = search needs
 
--- src/csw.rt:85:9
 returns-2 : tie.Need-returns-2
 unfolding readCsw if_then_else_ _and_
 returns-2 c =
     simp (c .refused2 .ensures, eq-eqb _ _ (c .before .before .before .before .if1 .left), sym (c .before .before .starts-with .ensures) ∙ not-true _ (c .before .if2 .taken))
 
--- src/csw.rt:87:16
 shared-slice-read-code : tie.Need-shared-slice-read-code
 shared-slice-read-code c = search needs
 
--- src/csw.rt:89:14
 accepted-requires : tie.Need-accepted-requires
 accepted-requires c κs = search needs
 
--- src/csw.rt:90:14
 accepted-requires-2 : tie.Need-accepted-requires-2
 accepted-requires-2 c κs = search needs
 
--- src/csw.rt:91:14
 accepted-requires-3 : tie.Need-accepted-requires-3
 accepted-requires-3 c κs = search needs
 
--- src/csw.rt:92:14
 refused-requires-3 : tie.Need-refused-requires-3
 refused-requires-3 c κs = search needs
 
--- src/csw.rt:78:1
 returns-3 : tie.Need-returns-3
 unfolding statuses look if_then_else_
 returns-3 c = ap shown (c .accepted .ensures) ∙ at-status 0 (c .before .before) (c .before .match .keys1)
 
--- src/csw.rt:78:1
 returns-4 : tie.Need-returns-4
 unfolding statuses look if_then_else_
 returns-4 c = ap shown (c .accepted2 .ensures) ∙ at-status 1 (c .before .before) (c .before .match .keys2)
 
--- src/csw.rt:78:1
 returns-5 : tie.Need-returns-5
 unfolding statuses look if_then_else_
 returns-5 c = ap shown (c .accepted3 .ensures) ∙ at-status 2 (c .before .before) (c .before .match .keys3)
 
--- src/csw.rt:78:1
 returns-6 : tie.Need-returns-6
 unfolding statuses if_then_else_
 returns-6 c =

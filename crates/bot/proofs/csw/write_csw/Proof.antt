@@ -1,43 +1,32 @@
 -- `write_csw` meets its contract. Assumes nothing.
 use mathlib.Core.Path.{sym, _∙_}
 use Rattle.wire.specs.Choice.{if_then_else_}
-use Rattle.wire.specs.Slices.{fits, placed}
+use Rattle.wire.specs.Slices.{placed}
 use Rattle.bot.specs.Csw.{writeCsw}
 use borrow.Author.Needs.{needs}
 use Rattle.bot.proofs.csw.write_csw.Statement.{statement}
 use Rattle.bot.proofs.csw.write_csw.Tie as tie
-use Rattle.bot.proofs.csw.write_csw.Reads as reads
-use Rattle.bot.proofs.csw.write_csw.Lts as lts
-use Rattle.bot.proofs.csw.csw_bytes.Reads as csw-bytes-reads
-use Rattle.wire.proofs.slices.put.Reads as put-reads
 
--- src/csw.rt:99:17
 csw-bytes-requires : tie.Need-csw-bytes-requires
 csw-bytes-requires c κs = search needs
 
--- src/csw.rt:100:23
 slice-aggregate-put : tie.Need-slice-aggregate-put
 slice-aggregate-put c = search needs
 
--- src/csw.rt:100:8
 put-requires : tie.Need-put-requires
 put-requires c κs = search needs
 
--- src/csw.rt:101:9
 same-length : tie.Need-same-length
 same-length c = search needs
 
--- src/csw.rt:101:9
 returns : tie.Need-returns
 unfolding writeCsw if_then_else_
 returns c =
     simp (sym (c .before .before .before .before .before .before .csw-bytes .ensures), sym (c .before .before .before .put .ensures .0) ∙ c .if1 .taken, c .before .before .before .put .ensures .1)
 
--- src/csw.rt:96:1
 same-length-2 : tie.Need-same-length-2
 same-length-2 c = search needs
 
--- src/csw.rt:96:1
 returns-2 : tie.Need-returns-2
 unfolding writeCsw placed if_then_else_
 returns-2 c =

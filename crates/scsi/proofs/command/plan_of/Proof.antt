@@ -9,46 +9,28 @@ use Rattle.scsi.specs.Command.{commandOf, commands, unknown, planBy, pla
 use borrow.Author.Needs.{needs}
 use Rattle.scsi.proofs.command.plan_of.Statement.{statement}
 use Rattle.scsi.proofs.command.plan_of.Tie as tie
-use Rattle.scsi.proofs.command.plan_of.Reads as reads
-use Rattle.scsi.proofs.command.plan_of.Lts as lts
-use Rattle.scsi.proofs.command.inquiry.Reads as inquiry-reads
-use Rattle.scsi.proofs.command.mode_sense.Reads as mode-sense-reads
-use Rattle.scsi.proofs.command.prevent_allow.Reads as prevent-allow-reads
-use Rattle.scsi.proofs.command.read10.Reads as read10-reads
-use Rattle.scsi.proofs.command.request_sense.Reads as request-sense-reads
-use Rattle.scsi.proofs.command.verify10.Reads as verify10-reads
-use Rattle.scsi.proofs.command.write10.Reads as write10-reads
-use Rattle.wire.proofs.slices.byte.Reads as byte-reads
 
--- src/command.rt:45:9
 byte-requires : tie.Need-byte-requires
 byte-requires c κs = search needs
 
--- src/command.rt:48:17
 request-sense-requires : tie.Need-request-sense-requires
 request-sense-requires c κs = search needs
 
--- src/command.rt:49:17
 inquiry-requires : tie.Need-inquiry-requires
 inquiry-requires c κs = search needs
 
--- src/command.rt:50:17
 mode-sense-requires : tie.Need-mode-sense-requires
 mode-sense-requires c κs = search needs
 
--- src/command.rt:51:17
 prevent-allow-requires : tie.Need-prevent-allow-requires
 prevent-allow-requires c κs = search needs
 
--- src/command.rt:56:17
 read10-requires : tie.Need-read10-requires
 read10-requires c κs = search needs
 
--- src/command.rt:57:17
 write10-requires : tie.Need-write10-requires
 write10-requires c κs = search needs
 
--- src/command.rt:58:17
 verify10-requires : tie.Need-verify10-requires
 verify10-requires c κs = search needs
 
@@ -57,52 +39,42 @@ at-code : (k x n : ℕ) (b : List ℕ) → x ≡ byteAt b 0 → x ≡ k → plan
 unfolding planOf
 at-code k x n b e h = ap (λ (j : ℕ). planBy (commandOf j) n b) (sym h ∙ e)
 
--- src/command.rt:42:1
 returns : tie.Need-returns
 unfolding planBy commandOf look commands if_then_else_
 returns c = at-code 0x00 _ _ _ (c .before .byte .ensures) (c .match .keys1)
 
--- src/command.rt:42:1
 returns-2 : tie.Need-returns-2
 unfolding commandOf look commands if_then_else_
 returns-2 c = c .request-sense .ensures ∙ at-code 0x03 _ _ _ (c .before .before .byte .ensures) (c .before .match .keys2)
 
--- src/command.rt:42:1
 returns-3 : tie.Need-returns-3
 unfolding commandOf look commands if_then_else_
 returns-3 c = c .inquiry .ensures ∙ at-code 0x12 _ _ _ (c .before .before .byte .ensures) (c .before .match .keys3)
 
--- src/command.rt:42:1
 returns-4 : tie.Need-returns-4
 unfolding commandOf look commands if_then_else_
 returns-4 c = c .mode-sense .ensures ∙ at-code 0x1A _ _ _ (c .before .before .byte .ensures) (c .before .match .keys4)
 
--- src/command.rt:42:1
 returns-5 : tie.Need-returns-5
 unfolding commandOf look commands if_then_else_
 returns-5 c = c .prevent-allow .ensures ∙ at-code 0x1E _ _ _ (c .before .before .byte .ensures) (c .before .match .keys5)
 
--- src/command.rt:42:1
 returns-6 : tie.Need-returns-6
 unfolding planBy commandOf look commands if_then_else_
 returns-6 c = at-code 0x25 _ _ _ (c .before .byte .ensures) (c .match .keys6)
 
--- src/command.rt:42:1
 returns-7 : tie.Need-returns-7
 unfolding commandOf look commands if_then_else_
 returns-7 c = c .read10 .ensures ∙ at-code 0x28 _ _ _ (c .before .before .byte .ensures) (c .before .match .keys7)
 
--- src/command.rt:42:1
 returns-8 : tie.Need-returns-8
 unfolding commandOf look commands if_then_else_
 returns-8 c = c .write10 .ensures ∙ at-code 0x2A _ _ _ (c .before .before .byte .ensures) (c .before .match .keys8)
 
--- src/command.rt:42:1
 returns-9 : tie.Need-returns-9
 unfolding commandOf look commands if_then_else_
 returns-9 c = c .verify10 .ensures ∙ at-code 0x2F _ _ _ (c .before .before .byte .ensures) (c .before .match .keys9)
 
--- src/command.rt:42:1
 returns-10 : tie.Need-returns-10
 unfolding planOf planBy commandOf commands if_then_else_
 returns-10 c = simp (sym (c .before .byte .ensures), look-rest (c .before .byte .result) Unit commands unknown (c .match .rest))

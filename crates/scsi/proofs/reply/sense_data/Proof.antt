@@ -5,30 +5,22 @@ use Rattle.scsi.specs.Reply.{senseData}
 use borrow.Author.Needs.{needs}
 use Rattle.scsi.proofs.reply.sense_data.Statement.{statement}
 use Rattle.scsi.proofs.reply.sense_data.Tie as tie
-use Rattle.scsi.proofs.reply.sense_data.Reads as reads
-use Rattle.scsi.proofs.reply.sense_data.Lts as lts
 
--- src/reply.rt:41:5
 array-write-data : tie.Need-array-write-data
 array-write-data c = search needs
 
--- src/reply.rt:42:5
 array-write-data-2 : tie.Need-array-write-data-2
 array-write-data-2 c = search needs
 
--- src/reply.rt:43:5
 array-write-data-3 : tie.Need-array-write-data-3
 array-write-data-3 c = search needs
 
--- src/reply.rt:44:5
 array-write-data-4 : tie.Need-array-write-data-4
 array-write-data-4 c = search needs
 
--- src/reply.rt:45:5
 array-write-data-5 : tie.Need-array-write-data-5
 array-write-data-5 c = search needs
 
--- src/reply.rt:37:1
 returns : tie.Need-returns
 unfolding senseData zeros
 returns c = refl

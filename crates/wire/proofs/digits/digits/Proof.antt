@@ -1,17 +1,14 @@
 -- `digits` meets its contract. The invariant: the digits that are left to write, then those that stand. Assumes nothing.
 use Prim.Native.Nat.{ℕ, zero, suc, _+_, _≤_, _<_, _-_, _/_, _%_}
 use mathlib.Core.Path.{_≡_, refl, sym, ap, _∙_}
-use mathlib.Core.List.{List, [], _∷_, _++_, append-nil}
+use mathlib.Core.List.{List, _∷_, _++_, append-nil}
 use native.Mathlib.Omega.{arith}
-use native.Mathlib.Numerals.{sub-one}
 use lib.ListN.{length, set, drop, length-set}
 use lib.Seq.{drop-at, set-split, length-take-le, append-snoc}
 use Rattle.wire.specs.Numbers.{decimal, low}
 use Rattle.wire.proofs.Positional.{decimal-suc}
 use Rattle.wire.proofs.digits.digits.Statement.{statement}
 use Rattle.wire.proofs.digits.digits.Tie as tie
-use Rattle.wire.proofs.digits.digits.Reads as reads
-use Rattle.wire.proofs.digits.digits.Lts as lts
 
 abbrev Inv-loop : tie.InvT-loop
 Inv-loop n out₀ rest₀ i₀ out rest i = (i ≤ 12) × ((length out ≡ 12) × (decimal 12 n ≡ decimal i rest ++ drop i out))
@@ -19,27 +16,21 @@ Inv-loop n out₀ rest₀ i₀ out rest i = (i ≤ 12) × ((length out ≡ 12) �
 abbrev μ-loop : tie.MeasureT-loop
 μ-loop n out₀ rest₀ i₀ out rest i = i
 
--- src/digits.rt:12:5
 loop-holds : tie.Need-loop-holds Inv-loop μ-loop
 loop-holds c = (omega arith, (refl, sym (append-nil _)))
 
--- src/digits.rt:13:9
 sub-i : tie.Need-sub-i Inv-loop μ-loop
 sub-i c = omega arith
 
--- src/digits.rt:14:19
 add-out : tie.Need-add-out Inv-loop μ-loop
 add-out c = omega arith
 
--- src/digits.rt:14:18
 cast-out : tie.Need-cast-out Inv-loop μ-loop
 cast-out c = omega arith
 
--- src/digits.rt:14:9
 array-write-out : tie.Need-array-write-out Inv-loop μ-loop
 array-write-out c = omega arith
 
--- src/digits.rt:12:5
 loop-less : tie.Need-loop-less Inv-loop μ-loop
 loop-less c = omega arith
 
@@ -58,7 +49,6 @@ loop-again c =
     let l = c .before in
     (omega arith, (simp length-set (omega arith), l .loop .inv .1 .1 ∙ step _ _ _ (omega arith) (omega arith)))
 
--- src/digits.rt:6:1
 returns : tie.Need-returns Inv-loop μ-loop
 unfolding decimal low
 returns c =

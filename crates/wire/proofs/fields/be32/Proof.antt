@@ -1,52 +1,38 @@
 -- `be32` meets its contract. Assumes nothing.
-use mathlib.Core.Path.{sym}
 use native.Mathlib.Omega.{arith}
-use lib.ListN.{length}
 use Rattle.wire.specs.Numbers.{value}
-use Rattle.wire.specs.Slices.{bytesAt, zeros}
+use Rattle.wire.specs.Slices.{zeros}
 use Rattle.wire.proofs.Lists.{bytes-past}
 use Rattle.wire.proofs.Positional.{big-join}
 use borrow.Author.Needs.{needs}
 use Rattle.wire.proofs.fields.be32.Statement.{statement}
 use Rattle.wire.proofs.fields.be32.Tie as tie
-use Rattle.wire.proofs.fields.be32.Reads as reads
-use Rattle.wire.proofs.fields.be32.Lts as lts
-use Rattle.wire.proofs.fields.be16.Reads as be16-reads
 
--- src/fields.rt:53:9
 returns : tie.Need-returns
 unfolding value zeros
 returns c = simp (bytes-past 4 (c .before .before .args .at) (c .before .before .args .s .now) (c .if1 .taken))
 
--- src/fields.rt:55:9
 be16-requires : tie.Need-be16-requires
 be16-requires c κs = search needs
 
--- src/fields.rt:56:23
 add-be16 : tie.Need-add-be16
 add-be16 c = search needs
 
--- src/fields.rt:56:9
 be16-requires-2 : tie.Need-be16-requires-2
 be16-requires-2 c κs = search needs
 
--- src/fields.rt:57:6
 cast-result : tie.Need-cast-result
 cast-result c = search needs
 
--- src/fields.rt:57:21
 cast-result-2 : tie.Need-cast-result-2
 cast-result-2 c = search needs
 
--- src/fields.rt:57:20
 mul-result : tie.Need-mul-result
 mul-result c = search needs
 
--- src/fields.rt:57:5
 add-result : tie.Need-add-result
 add-result c = search needs
 
--- src/fields.rt:49:1
 returns-2 : tie.Need-returns-2
 returns-2 c =
     let a = c .before .before .before .before .args in

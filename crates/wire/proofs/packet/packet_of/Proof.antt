@@ -6,26 +6,19 @@ use Rattle.wire.specs.Packet.{packetOf}
 use borrow.Author.Needs.{needs}
 use Rattle.wire.proofs.packet.packet_of.Statement.{statement}
 use Rattle.wire.proofs.packet.packet_of.Tie as tie
-use Rattle.wire.proofs.packet.packet_of.Reads as reads
-use Rattle.wire.proofs.packet.packet_of.Lts as lts
-use Rattle.wire.proofs.slices.put.Reads as put-reads
 
--- src/packet.rt:16:12
 slice-aggregate-put : tie.Need-slice-aggregate-put
 slice-aggregate-put c = search needs
 
--- src/packet.rt:16:8
 put-requires : tie.Need-put-requires
 put-requires c κs = search needs
 
--- src/packet.rt:17:9
 returns : tie.Need-returns
 unfolding packetOf if_then_else_ zeros
 returns c =
     let p = c .before .before .put in
     simp (p .ensures .1, sym (p .ensures .0), c .if1 .taken)
 
--- src/packet.rt:12:1
 returns-2 : tie.Need-returns-2
 unfolding packetOf if_then_else_ zeros
 returns-2 c =

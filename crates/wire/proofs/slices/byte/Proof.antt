@@ -4,18 +4,13 @@ use lib.ListN.{List·getD-eq-default}
 use borrow.Author.Needs.{needs}
 use Rattle.wire.proofs.slices.byte.Statement.{statement}
 use Rattle.wire.proofs.slices.byte.Tie as tie
-use Rattle.wire.proofs.slices.byte.Reads as reads
-use Rattle.wire.proofs.slices.byte.Lts as lts
 
--- src/slices.rt:10:23
 shared-slice-read-result : tie.Need-shared-slice-read-result
 shared-slice-read-result c = search needs
 
--- src/slices.rt:7:1
 returns : tie.Need-returns
 returns c = search needs
 
--- src/slices.rt:7:1
 returns-2 : tie.Need-returns-2
 returns-2 c = sym (List·getD-eq-default (c .before .args .s .now) 0 (c .if1 .left))
 

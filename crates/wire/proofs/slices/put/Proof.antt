@@ -10,8 +10,6 @@ use lib.Seq.{paste, paste-zero, paste-suc, take-length}
 use Rattle.wire.proofs.Lists.{fits-yes, fits-no, placed-yes, placed-no}
 use Rattle.wire.proofs.slices.put.Statement.{statement}
 use Rattle.wire.proofs.slices.put.Tie as tie
-use Rattle.wire.proofs.slices.put.Reads as reads
-use Rattle.wire.proofs.slices.put.Lts as lts
 
 abbrev Inv-loop : tie.InvT-loop
 Inv-loop dst₀ at src i₀ dst i = (i ≤ length src) × ((dst ≡ paste dst₀ at src i) × (length dst ≡ length dst₀))
@@ -19,39 +17,30 @@ Inv-loop dst₀ at src i₀ dst i = (i ≤ length src) × ((dst ≡ paste dst₀
 abbrev μ-loop : tie.MeasureT-loop
 μ-loop dst₀ at src i₀ dst i = length src - i
 
--- src/slices.rt:35:9
 returns : tie.Need-returns Inv-loop μ-loop
 returns c = (sym (fits-no _ _ _ (omega arith)), sym (placed-no _ _ _ (omega arith)))
 
--- src/slices.rt:37:8
 sub-if2 : tie.Need-sub-if2 Inv-loop μ-loop
 sub-if2 c = omega arith
 
--- src/slices.rt:38:9
 returns-2 : tie.Need-returns-2 Inv-loop μ-loop
 returns-2 c = (sym (fits-no _ _ _ (omega arith)), sym (placed-no _ _ _ (omega arith)))
 
--- src/slices.rt:41:5
 loop-holds : tie.Need-loop-holds Inv-loop μ-loop
 loop-holds c = let a = c .before .before .args in (omega arith, (paste-zero (a .dst .now) (a .at) (a .src .now), refl))
 
--- src/slices.rt:42:23
 shared-slice-read-dst : tie.Need-shared-slice-read-dst Inv-loop μ-loop
 shared-slice-read-dst c = omega arith
 
--- src/slices.rt:42:13
 add-dst : tie.Need-add-dst Inv-loop μ-loop
 add-dst c = omega arith
 
--- src/slices.rt:42:9
 slice-write-dst : tie.Need-slice-write-dst Inv-loop μ-loop
 slice-write-dst c = omega arith
 
--- src/slices.rt:43:9
 add-i : tie.Need-add-i Inv-loop μ-loop
 add-i c = omega arith
 
--- src/slices.rt:41:5
 loop-less : tie.Need-loop-less Inv-loop μ-loop
 loop-less c = omega arith
 
@@ -67,11 +56,9 @@ loop-again c =
     let l = c .before .before in
     (omega arith, (step _ _ _ _ _ (l .loop .inv .1 .0) (omega arith) (c .before .loop-test .taken), simp length-set (omega arith)))
 
--- src/slices.rt:31:1
 same-length : tie.Need-same-length Inv-loop μ-loop
 same-length c = c .before .loop .inv .1 .1
 
--- src/slices.rt:31:1
 returns-3 : tie.Need-returns-3 Inv-loop μ-loop
 returns-3 c =
     let l = c .before in

@@ -1,7 +1,6 @@
 -- `starts_with` meets its contract. The invariant: what is left of both decides. Assumes nothing.
-use Prim.Native.Nat.{ℕ, _+_, _≤_, _<_, _-_}
-use mathlib.Core.Path.{_≡_, refl, sym, ap, _∙_}
-use mathlib.Core.Bool.{true}
+use Prim.Native.Nat.{_≤_, _-_}
+use mathlib.Core.Path.{_≡_, refl, sym, _∙_}
 use native.Mathlib.Omega.{arith}
 use lib.ListN.{length, drop, drop-of-length-le}
 use borrow.Author.Tests.{eq-eqb, ne-eqb}
@@ -10,8 +9,6 @@ use Rattle.wire.specs.Choice.{_and_}
 use Rattle.wire.proofs.Lists.{starts-step, starts-short}
 use Rattle.wire.proofs.slices.starts_with.Statement.{statement}
 use Rattle.wire.proofs.slices.starts_with.Tie as tie
-use Rattle.wire.proofs.slices.starts_with.Reads as reads
-use Rattle.wire.proofs.slices.starts_with.Lts as lts
 
 abbrev Inv-loop : tie.InvT-loop
 Inv-loop s front i₀ i = (i ≤ length front) × (startsWith front s ≡ startsWith (drop i front) (drop i s))

@@ -4,20 +4,15 @@ use Rattle.wire.specs.Choice.{_and_}
 use Rattle.scsi.specs.Sense.{isNoSense}
 use Rattle.scsi.proofs.sense.Sense.is_none.Statement.{statement}
 use Rattle.scsi.proofs.sense.Sense.is_none.Tie as tie
-use Rattle.scsi.proofs.sense.Sense.is_none.Reads as reads
-use Rattle.scsi.proofs.sense.Sense.is_none.Lts as lts
 
--- src/sense.rt:57:13
 returns : tie.Need-returns
 unfolding isNoSense _and_
 returns c = simp (ne-eqb _ _ (c .if1 .taken))
 
--- src/sense.rt:60:13
 returns-2 : tie.Need-returns-2
 unfolding isNoSense _and_
 returns-2 c = simp (eq-eqb _ _ (c .before .if1 .left), ne-eqb _ _ (c .if2 .taken))
 
--- src/sense.rt:50:5
 returns-3 : tie.Need-returns-3
 unfolding isNoSense _and_
 returns-3 c = simp (eq-eqb _ _ (c .before .if1 .left), eq-eqb _ _ (c .if2 .left))

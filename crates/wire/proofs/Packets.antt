@@ -1,0 +1,38 @@
+-- A packet holds its bytes in front, zeros behind. Assumes nothing.
+use Prim.Native.Nat.{ℕ, zero, suc, _+_, _-_, _≤_}
+use mathlib.Core.Path.{_≡_, refl, sym, ap, _∙_}
+use mathlib.Core.List.{List, [], _∷_, _++_}
+use native.Mathlib.Omega.{arith}
+use native.Mathlib.Nat.{sub-zero, zero-sub, suc-sub-suc}
+use lib.ListN.{length, take, drop, length-replicate}
+use lib.Seq.{drop-nil, take-at}
+use Rattle.wire.specs.Choice.{if_then_else_}
+use Rattle.wire.specs.Slices.{zeros, fits}
+use Rattle.wire.specs.Packet.{packetOf}
+use Rattle.wire.proofs.Cases.{if-true}
+use Rattle.wire.proofs.Lists.{fits-yes, placed-yes}
+
+pub length-zeros : (n : ℕ) → length (zeros n) ≡ n
+unfolding zeros
+length-zeros n = length-replicate n 0
+
+pub drop-zeros : (k n : ℕ) → drop k (zeros n) ≡ zeros (n - k)
+unfolding zeros
+drop-zeros zero n = ap zeros (sym (sub-zero n))
+drop-zeros (suc k) zero = ap zeros (sym (zero-sub (suc k)))
+drop-zeros (suc k) (suc n) = drop-zeros k n ∙ ap zeros (sym (suc-sub-suc n k))
+
+pub packet-is : (s : List ℕ) → length s ≤ 64 → packetOf s ≡ record { bytes = s ++ zeros (64 - length s); len = length s }
+unfolding packetOf
+packet-is s h =
+    let n = length-zeros 64 in
+    let room : 0 + length s ≤ length (zeros 64) = omega arith in
+    let behind : drop (0 + length s) (zeros 64) ≡ zeros (64 - length s) = drop-zeros (0 + length s) 64 ∙ ap zeros (let e : 64 - (0 + length s) ≡ 64 - length s = omega arith in e) in
+    λ i. record {
+      bytes = (placed-yes (zeros 64) 0 s room ∙ ap (λ (l : List ℕ). s ++ l) behind) i;
+      len = if-true (fits (zeros 64) 0 s) (length s) 0 (fits-yes (zeros 64) 0 s room) i;
+    }
+
+-- what a packet holds
+pub packet-holds : (s : List ℕ) → length s ≤ 64 → take (packetOf s .len) (packetOf s .bytes) ≡ s
+packet-holds s h = rw (packet-is s h) (take-at s (zeros (64 - length s)) (length s) refl)
