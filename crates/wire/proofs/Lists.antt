@@ -7,12 +7,12 @@ use native.Mathlib.Omega.{arith}
 use native.Mathlib.Numerals.{add-one, one-add}
 use native.Mathlib.Nat.{add-assoc, zero-add, add-zero, suc-add}
 use lib.Dec.{eqb}
-use lib.ListN.{length, take, drop, getD, length-drop, take-append-drop, drop-of-length-le, List·getD-eq-default}
-use lib.Seq.{drop-cons, take-all}
-use borrow.Author.Tests.{le-leb, lt-leb, eqb-true}
+use lib.ListN.{length, take, drop, getD, length-append, length-drop, take-append-drop, drop-of-length-le, List·getD-eq-default}
+use lib.Seq.{drop-cons, take-all, length-take-le}
+use borrow.Author.Tests.{le-leb, lt-leb, leb-true, eqb-true}
 use Rattle.wire.specs.Choice.{if_then_else_, _and_}
 use Rattle.wire.specs.Slices.{byteAt, bytesAt, zeros, Every, startsWith, fits, placed}
-use Rattle.wire.proofs.Cases.{and-false, both}
+use Rattle.wire.proofs.Cases.{and-false, both, by-if}
 
 -- a part from a on, as the borrow checker states it
 pub tail-is : (a : ℕ) (s : List ℕ) → take (length s - a) (drop a s) ≡ drop a s
@@ -54,6 +54,17 @@ placed-yes d at s h = simp (fits-yes d at s h)
 pub placed-no : (d : List ℕ) (at : ℕ) (s : List ℕ) → length d < at + length s → placed d at s ≡ d
 unfolding placed if_then_else_
 placed-no d at s h = simp (fits-no d at s h)
+
+-- a copy keeps the length
+pub length-placed : (d : List ℕ) (at : ℕ) (s : List ℕ) → length (placed d at s) ≡ length d
+unfolding placed fits
+length-placed d at s =
+    by-if (λ (l : List ℕ). length l ≡ length d) (fits d at s) (take at d ++ s ++ drop (at + length s) d) d
+    (λ e.
+    let h : at + length s ≤ length d = leb-true _ _ e in
+    length-append (take at d ++ s) (drop (at + length s) d)
+    ∙ (let a = length-append (take at d) s in let b = length-take-le at d (omega arith) in let c = length-drop (at + length s) d in omega arith))
+    (λ _. refl)
 
 -- s takes the whole of d
 pub placed-whole : (d s : List ℕ) → length s ≡ length d → placed d 0 s ≡ s

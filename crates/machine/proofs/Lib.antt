@@ -1,0 +1,9 @@
+pub mod Along
+pub mod Judge
+pub mod Fill
+pub mod Grant
+pub mod Sim
+pub mod Recover
+pub mod Due
+pub mod Lock
+pub mod Demand

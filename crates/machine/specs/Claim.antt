@@ -1,0 +1,154 @@
+-- Demand 3, as one statement about whole lists of events.
+use Prim.Native.Nat.{ℕ, _≤_}
+use mathlib.Core.Path.{_≡_}
+use mathlib.Core.Bool.{Bool, true, false, _||_}
+use mathlib.Core.List.{List, [], _∷_, _++_}
+use lib.Dec.{leb, eqb}
+use lib.ListN.{length}
+use Rattle.wire.specs.Choice.{_and_}
+use Rattle.wire.specs.Slices.{byteAt}
+use Rattle.bot.specs.Cbw.{headerOf}
+use Rattle.usb.specs.Request.{requestOf}
+use Rattle.usb.specs.declared.request.Request.{Request}
+use Rattle.usb.specs.declared.request.Request.the-variants.{SetAddress, SetConfiguration, GetConfiguration, GetDeviceStatus, GetInterfaceStatus, GetEndpointStatus, ClearHalt, SetHalt, MassStorageReset, GetMaxLun, GetDescriptor}
+use Rattle.usb.specs.declared.request.Request.the-variants as request
+use Rattle.machine.specs.declared.record.Device.{Device}
+use Rattle.machine.specs.declared.answer.Answer.{Answer}
+use Rattle.machine.specs.declared.answer.Answer.the-variants.{Ack, Nak, Stall}
+use Rattle.machine.specs.Answer.{numberOf}
+use Rattle.machine.specs.Making.{make}
+use Rattle.machine.specs.Wrapper.{accepted}
+use Rattle.machine.specs.Machine.{Event, busReset, control, bulkOut, bulkIn, Seen, Run, step, run}
+use Rattle.machine.specs.Tally.{Making, Log, start, isAck, noted, observed, stored}
+
+-- ---- a collector's life
+
+unfoldable pub answers : List Seen → List Answer
+answers [] = []
+answers (r ∷ rs) = r .answer ∷ answers rs
+
+-- What the collector of a making has come to after the events.
+unfoldable pub lived : Making → List Event → Run
+lived k es = run (make (k .identity) (k .medium) .dev) (k .medium) es
+
+-- What the history of that says.
+unfoldable pub history : Making → List Event → Log
+history k es = observed (noted k) start es (answers (lived k es .replies))
+
+-- ---- the requests that the demand names, as setup bytes (document 01, "Control requests")
+
+abbrev pub setup : ℕ → ℕ → ℕ → ℕ → List ℕ
+setup type request value index = type ∷ request ∷ value ∷ 0 ∷ index ∷ 0 ∷ 0 ∷ 0 ∷ []
+
+-- Mass Storage Reset and both halt clearings, in either order, with the buffers that they are lent.
+unfoldable pub recovery : Bool → List ℕ → List ℕ → List ℕ → List Event
+recovery true x y z = control (setup 0x21 0xFF 0 0) x ∷ control (setup 0x02 0x01 0 0x81) y ∷ control (setup 0x02 0x01 0 0x02) z ∷ []
+recovery false x y z = control (setup 0x21 0xFF 0 0) x ∷ control (setup 0x02 0x01 0 0x02) y ∷ control (setup 0x02 0x01 0 0x81) z ∷ []
+
+-- Set Address and Set Configuration 1.
+unfoldable pub settingUp : ℕ → List ℕ → List ℕ → List Event
+settingUp a x y = control (setup 0x00 0x05 a 0) x ∷ control (setup 0x00 0x09 1 0) y ∷ []
+
+-- ---- a wrapper is due on an unhalted pipe
+
+-- A good Test Unit Ready wrapper announcing 0.
+unfoldable pub goodTest : List ℕ → Bool
+goodTest w = accepted w and eqb (byteAt w 15) 0x00 and eqb (headerOf w .announced) 0
+
+-- "exactly where a good Test Unit Ready wrapper announcing 0, sent twice there, is answered ack, then nak": some such wrapper.
+unfoldable pub WrapperDue : Device → List ℕ → Type 0
+WrapperDue d m = (w : List ℕ) × (goodTest w ≡ true) × (answers (run d m (bulkOut w ∷ bulkOut w ∷ []) .replies) ≡ (Ack ∷ Nak ∷ []))
+
+-- ---- the first half: recovery
+
+-- A collector that came to the run r is as a fresh one of the making's identity over the medium that r left, given the address a and configured.
+pub record AsFresh (k : Making) (a : ℕ) (r : Run) (x y : List ℕ) : Type 0 where
+  pub makes : make (k .identity) (r .medium) .answer ≡ Ack
+  pub sets-up : answers (lived (record { identity = k .identity; medium = r .medium }) (settingUp a x y) .replies) ≡ (Ack ∷ Ack ∷ [])
+  pub keeps : lived (record { identity = k .identity; medium = r .medium }) (settingUp a x y) .medium ≡ r .medium
+  pub further : (fs : List Event)
+      → run (r .dev) (r .medium) fs ≡ run (lived (record { identity = k .identity; medium = r .medium }) (settingUp a x y) .dev) (r .medium) fs
+
+-- "the medium is the starting one changed by exactly the blocks whose 512 bytes all arrived"
+unfoldable pub MediumFromHistory : Making → List Event → Type 0
+MediumFromHistory k es = lived k es .medium ≡ stored (k .medium) (history k es .arrived)
+
+unfoldable pub Recovers : Making → List Event → Type 0
+Recovers k es =
+    history k es .configured ≡ true
+    → (order : Bool) (x y z : List ℕ)
+    → answers (run (lived k es .dev) (lived k es .medium) (recovery order x y z) .replies) ≡ (Ack ∷ Ack ∷ Ack ∷ [])
+    → MediumFromHistory k (es ++ recovery order x y z)
+    × ((x′ y′ : List ℕ) → 64 ≤ length x′ → 64 ≤ length y′ → AsFresh k (history k es .address) (lived k (es ++ recovery order x y z)) x′ y′)
+
+-- ---- the second half: the lock
+
+unfoldable pub isDrop : Request → Bool
+isDrop (SetAddress a) = false
+isDrop (SetConfiguration v) = true
+isDrop GetConfiguration = false
+isDrop GetDeviceStatus = false
+isDrop GetInterfaceStatus = false
+isDrop (GetEndpointStatus e) = false
+isDrop (ClearHalt e) = false
+isDrop (SetHalt e) = false
+isDrop MassStorageReset = true
+isDrop GetMaxLun = false
+isDrop (GetDescriptor which n) = false
+isDrop request.Stall = false
+
+-- "an acked Mass Storage Reset, bus reset or Set Configuration"
+unfoldable pub ends : Event → Answer → Bool
+ends busReset a = isAck a
+ends (control s b) a = isAck a and isDrop (requestOf s)
+ends (bulkOut p) a = false
+ends (bulkIn b) a = false
+
+-- one of 10 to 14; exactly 3, or one of these
+unfoldable pub isRefusal : Answer → Bool
+isRefusal a = leb 10 (numberOf a) and leb (numberOf a) 14
+
+unfoldable pub isShut : Answer → Bool
+isShut a = eqb (numberOf a) 3 || isRefusal a
+
+unfoldable pub shutAt : Event → Answer → Bool
+shutAt busReset a = true
+shutAt (control s b) a = true
+shutAt (bulkOut p) a = isShut a
+shutAt (bulkIn b) a = isShut a
+
+-- Whether an acked drop has come, and whether each bulk event was answered so.
+pub record Watch : Type 0 where
+  pub ended : Bool
+  pub shut : Bool
+
+unfoldable pub watch : Watch → Event → Answer → Watch
+watch w e a = record { ended = w .ended || ends e a; shut = w .shut and shutAt e a }
+
+unfoldable pub watched : List Event → List Answer → Watch
+watched es said = observed watch (record { ended = false; shut = true }) es said
+
+-- After the packet p at this record and medium, with no acked drop among the events gs.
+pub record StaysShut (d : Device) (m p : List ℕ) (gs : List Event) : Type 0 where
+  pub stalls : step d m (bulkOut p) .answer ≡ Stall
+  pub pipes : watched gs (answers (run (step d m (bulkOut p) .dev) (step d m (bulkOut p) .medium) gs .replies)) .shut ≡ true
+  pub medium : run d m (bulkOut p ∷ gs) .medium ≡ m
+
+unfoldable pub Locks : Device → List ℕ → Type 0
+Locks d m =
+    (p : List ℕ)
+    → accepted p ≡ false
+    → isRefusal (step d m (bulkOut p) .answer) ≡ false
+    → WrapperDue d m
+    → (gs : List Event)
+    → watched gs (answers (run (step d m (bulkOut p) .dev) (step d m (bulkOut p) .medium) gs .replies)) .ended ≡ false
+    → StaysShut d m p gs
+
+-- ---- demand 3
+
+unfoldable pub Demand3 : Type 0
+Demand3 =
+    (k : Making)
+    → make (k .identity) (k .medium) .answer ≡ Ack
+    → (es : List Event)
+    → Recovers k es × Locks (lived k es .dev) (lived k es .medium)

@@ -1,0 +1,12 @@
+pub mod Answer
+pub mod Record
+pub mod Fits
+pub mod Wrapper
+pub mod Making
+pub mod Outcome
+pub mod Control
+pub mod Begin
+pub mod Bulk
+pub mod Machine
+pub mod Tally
+pub mod Claim

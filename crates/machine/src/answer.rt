@@ -1,0 +1,27 @@
+// How an event or a making ends.
+pub enum Answer {
+    // The first `count` bytes of the lent buffer were written.
+    Data { count: usize },
+    Ack,
+    Nak,
+    Stall,
+    // A bulk event while not configured: the device does not answer.
+    Silent,
+    // The call was refused, and nothing changed.
+    Refused { why: Refusal },
+}
+
+pub enum Refusal {
+    // The record does not fit together.
+    Record,
+    // The medium is empty, not a multiple of 512, too large, or not of the record's size.
+    Medium,
+    // The answer buffer is under 64 bytes.
+    Buffer,
+    // The bulk-out packet is over 64 bytes.
+    Packet,
+    // The setup has not 8 bytes.
+    Setup,
+    // The collector number has more than twelve digits.
+    Number,
+}

@@ -1,0 +1,58 @@
+// The device's record, by value: identity, the state that events change, and the block being gathered.
+use bot::csw::Status;
+use scsi::reply::Reply;
+use scsi::sense::Sense;
+use usb::descriptor::Identity;
+
+// The largest medium, in blocks of 512 bytes.
+pub const MOST_BLOCKS: u32 = 4096;
+
+// All that belongs to one logical unit.
+pub struct LogicalUnit {
+    pub blocks: u32,
+    pub sense: Sense,
+}
+
+// How far the command in hand has come.
+pub enum Stage {
+    // A wrapper is due.
+    Ready,
+    // Blocks are due from the host: the next one, how many, and how many bytes of it are held.
+    DataOut { block: u32, left: u32, held: u32 },
+    // Bytes of the medium are due to the host: from where, and how many.
+    DataIn { place: u32, left: u32 },
+    // Bytes of a reply are due to the host; the reply has the values found at the wrapper.
+    ReplyIn { reply: Reply, place: u32, left: u32 },
+    // The status wrapper is due.
+    StatusDue { status: Status },
+}
+
+// The command in hand; its numbers are zero where none is.
+pub struct Task {
+    pub stage: Stage,
+    pub tag: u32,
+    pub announced: u32,
+    pub residue: u32,
+}
+
+// The Bulk-Only link: the halts of both pipes, the lock, the command in hand.
+pub struct Link {
+    pub haltin: bool,
+    pub haltout: bool,
+    pub locked: bool,
+    pub task: Task,
+}
+
+pub struct State {
+    pub address: u8,
+    pub configured: bool,
+    pub unit: LogicalUnit,
+    pub link: Link,
+}
+
+pub struct Device {
+    pub identity: Identity,
+    pub state: State,
+    // The block being gathered: zeros where none is.
+    pub part: [u8; 512],
+}
