@@ -1,2 +1,3 @@
 pub mod Wrappers
 pub mod RoundTrip
+pub mod Meetings

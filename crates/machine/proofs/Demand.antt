@@ -51,7 +51,7 @@ makes : (i : Identity) (m : List ℕ) → mediumServed m ≡ true → numberFits
 unfolding make
 makes i m s n = if-true _ _ _ s ∙ if-true _ _ _ n
 
-small-of : (m : List ℕ) → mediumServed m ≡ true → sizeFits (blocksIn m) ≡ true
+pub small-of : (m : List ℕ) → mediumServed m ≡ true → sizeFits (blocksIn m) ≡ true
 unfolding mediumServed
 small-of m h = both _ _ h .1
 

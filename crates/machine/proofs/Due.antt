@@ -22,14 +22,9 @@ use Rattle.machine.specs.Wrapper.{accepted}
 use Rattle.machine.specs.Bulk.{cutShort, onData, outStage, packetOut}
 use Rattle.machine.specs.Machine.{Event, bulkOut, Verdict, passes, refuses, judgedOut, onBulkOut, outInputs, Out, unlent, step, run}
 use Rattle.machine.specs.Claim.{answers, goodTest, WrapperDue}
+use Rattle.machine.specs.Beside.{IsDue}
 use Rattle.machine.proofs.Judge.{Barred, Passed, judge}
 use Rattle.machine.proofs.Recover.{first}
-
--- ready for a wrapper, configured, bulk-out not halted
-pub record Due (d : Device) : Type 0 where
-  pub configured : d .state .configured ≡ true
-  pub unhalted : d .state .link .haltout ≡ false
-  pub ready : d .state .link .task .stage ≡ Ready
 
 -- ---- a packet answered by 0 to 3 passed its checks
 
@@ -99,7 +94,7 @@ unhalted-of d m w = go (d .state .link .haltout)
     go true e = absurd (stall-ack e)
     go false e = refl
 
-pub due : (d : Device) (m : List ℕ) → WrapperDue d m → Due d
+pub due : (d : Device) (m : List ℕ) → WrapperDue d m → IsDue d
 unfolding WrapperDue packetOut
 due d m (w, good, h) =
     let f = first d m (bulkOut w) (bulkOut w ∷ []) Ack (Nak ∷ []) h in

@@ -18,10 +18,12 @@ use Rattle.machine.specs.Bulk.{packetSize}
 use Rattle.machine.specs.Machine.{Lent, nothing, bytes, Inputs, where-lent, Verdict, passes, refuses, check, checks}
 use Rattle.machine.specs.Tally.{isAck}
 use Rattle.machine.specs.Claim.{isRefusal}
+use Rattle.machine.specs.Beside.{isQuiet}
 
 -- an answer that a check gives: no ack, 4 or more; and of a bulk event of a configured device, one of 10 to 14
 pub record Barred (d : Device) (i : Inputs) (a : Answer) : Type 0 where
   pub quiet : isAck a ≡ false
+  pub still : isQuiet a ≡ true
   pub high : leb 4 (numberOf a) ≡ true
   pub number : i .bulk ≡ true → d .state .configured ≡ true → isRefusal a ≡ true
 
@@ -41,12 +43,12 @@ by-check P false a v f g = f refl
 
 -- numbers 10 to 14 refuse
 refuses-as : (d : Device) (i : Inputs) (r : Refusal) → leb 4 (refusalNumber r) ≡ true → isRefusal (Refused r) ≡ true → Barred d i (Refused r)
-unfolding isAck
-refuses-as d i r h e = record { quiet = refl; high = h; number = λ _ _. e }
+unfolding isAck isQuiet
+refuses-as d i r h e = record { quiet = refl; still = refl; high = h; number = λ _ _. e }
 
 silent-as : (d : Device) (i : Inputs) → (if i .bulk then d .state .configured else true) ≡ false → Barred d i Silent
-unfolding isAck
-silent-as d i e = record { quiet = refl; high = refl; number = λ k c. absurd (true≢false (sym c ∙ sym (if-true (i .bulk) (d .state .configured) true k) ∙ e)) }
+unfolding isAck isQuiet
+silent-as d i e = record { quiet = refl; still = refl; high = refl; number = λ k c. absurd (true≢false (sym c ∙ sym (if-true (i .bulk) (d .state .configured) true k) ∙ e)) }
 
 pub judge : (P : Verdict → Type 0) (d : Device) (i : Inputs) → ((a : Answer) → Barred d i a → P (refuses a)) → (Passed d i → P passes) → P (checks d i)
 unfolding checks isRefusal _and_

@@ -7,3 +7,6 @@ pub mod Recover
 pub mod Due
 pub mod Lock
 pub mod Demand
+pub mod Reach
+pub mod StepLaws
+pub mod Beside

@@ -28,9 +28,10 @@ use Rattle.machine.specs.Bulk.{lockedState, onWrapper, outStage, packetO
 use Rattle.machine.specs.Machine.{Event, busReset, control, bulkOut, bulkIn, Verdict, passes, refuses, judged, judgedOut, onReset, onControl, onBulkOut, onBulkIn, resetInputs, controlInputs, outInputs, inInputs, Out, out, unlent, step, run}
 use Rattle.machine.specs.Tally.{isAck, observed}
 use Rattle.machine.specs.Claim.{answers, isDrop, ends, isRefusal, isShut, shutAt, Watch, watch, watched, StaysShut, Locks}
+use Rattle.machine.specs.Beside.{IsDue}
 use Rattle.machine.proofs.Along.{along}
 use Rattle.machine.proofs.Judge.{Barred, Passed, judge}
-use Rattle.machine.proofs.Due.{Due, due}
+use Rattle.machine.proofs.Due.{due}
 
 -- configured, locked, both pipes halted
 record Locked (d : Device) : Type 0 where
@@ -199,7 +200,7 @@ locked-of : (d : Device) → d .state .configured ≡ true → Locked (withState
 unfolding lockedState withHalts
 locked-of d c = record { configured = c; haltin = refl; haltout = refl; locked = refl }
 
-breaks : (d : Device) (m p : List ℕ) → accepted p ≡ false → isRefusal (step d m (bulkOut p) .answer) ≡ false → Due d
+breaks : (d : Device) (m p : List ℕ) → accepted p ≡ false → isRefusal (step d m (bulkOut p) .answer) ≡ false → IsDue d
     → step d m (bulkOut p) ≡ out Stall (withState d (lockedState (d .state))) m []
 unfolding step onBulkOut judgedOut packetOut outStage onWrapper wrapperOf
 breaks d m p w r u =

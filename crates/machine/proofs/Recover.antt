@@ -148,19 +148,19 @@ pub control-passed : (d : Device) (m q b : List ℕ) → fits (d .identity) (d .
 unfolding step onControl checks check where-lent judged if_then_else_
 control-passed d m q b f h k = simp (f, le-leb 64 (length b) h, eq-eqb (length q) 8 k)
 
+pub fits-fresh : (i : Identity) (n : ℕ) → sizeFits n ≡ true → numberFits (i .number) ≡ true → fits i (fresh i n .state) ≡ true
+unfolding fits fresh addressFits idleFits isReady isNoSense lockFits taskFits if_then_else_ _and_
+fits-fresh i n small numbered = simp (small, numbered)
+
 module _ (i : Identity) (n a : ℕ) (x y : List ℕ) (m : List ℕ)
     (small : sizeFits n ≡ true) (numbered : numberFits (i .number) ≡ true) (low : a ≤ 0x7F) (hx : 64 ≤ length x) (hy : 64 ≤ length y) where
-  fits-fresh : fits i (fresh i n .state) ≡ true
-  unfolding fits fresh addressFits idleFits isReady isNoSense lockFits taskFits if_then_else_ _and_
-  fits-fresh = simp (small, numbered)
-
   fits-named : fits i (withAddress (fresh i n .state) a) ≡ true
   unfolding fits fresh withAddress addressFits idleFits isReady isNoSense lockFits taskFits if_then_else_ _and_
   fits-named = simp (small, numbered, le-leb a 0x7F low)
 
   named : step (fresh i n) m (control (setup 0x00 0x05 a 0) x) ≡ out Ack (withState (fresh i n) (withAddress (fresh i n .state) a)) m x
   unfolding perform fresh if_then_else_
-  named = control-passed (fresh i n) m (setup 0x00 0x05 a 0) x fits-fresh hx refl ∙ ap (λ (r : Request). beside m (perform r (fresh i n) x)) (read-address a low)
+  named = control-passed (fresh i n) m (setup 0x00 0x05 a 0) x (fits-fresh i n small numbered) hx refl ∙ ap (λ (r : Request). beside m (perform r (fresh i n) x)) (read-address a low)
 
   configured : step (withState (fresh i n) (withAddress (fresh i n .state) a)) m (control (setup 0x00 0x09 1 0) y) ≡ out Ack (dropped (fresh i n) a true false false) m y
   unfolding perform fresh dropped droppedState withAddress
@@ -176,3 +176,24 @@ module _ (i : Identity) (n a : ℕ) (x y : List ℕ) (m : List ℕ)
       }
   unfolding run settingUp
   set-up = rw (named, configured)
+
+-- ---- the recovery of a configured device whose record fits is acked, with buffers of 64 bytes or more
+
+module _ (d : Device) (m : List ℕ) (f : fits (d .identity) (d .state) ≡ true) (c : d .state .configured ≡ true) where
+  asks : (q b : List ℕ) (x : Request) (r : Reaction) → requestOf q ≡ x → perform x d b ≡ needsConfigured d b r → length q ≡ 8 → 64 ≤ length b
+      → step d m (control q b) ≡ beside m r
+  unfolding needsConfigured
+  asks q b x r e g n h =
+      control-passed d m q b f h n ∙ ap (λ (y : Request). beside m (perform y d b)) e ∙ ap (beside m) (g ∙ if-true _ _ _ c)
+
+  pub resets : (b : List ℕ) → 64 ≤ length b → step d m (control (setup 0x21 0xFF 0 0) b) ≡ out Ack (dropped d (d .state .address) true (d .state .link .haltin) (d .state .link .haltout)) m b
+  unfolding perform
+  resets b h = asks _ b MassStorageReset _ read-reset refl refl h
+
+  pub clears-in : (b : List ℕ) → 64 ≤ length b → step d m (control (setup 0x02 0x01 0 0x81) b) ≡ out Ack (withState d (haltIn false (d .state))) m b
+  unfolding perform clearHalt
+  clears-in b h = asks _ b (ClearHalt BulkIn) _ read-clear-in refl refl h
+
+  pub clears-out : (b : List ℕ) → 64 ≤ length b → step d m (control (setup 0x02 0x01 0 0x02) b) ≡ out Ack (withState d (haltOut false (d .state))) m b
+  unfolding perform clearHalt
+  clears-out b h = asks _ b (ClearHalt BulkOut) _ read-clear-out refl refl h

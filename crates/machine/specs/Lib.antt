@@ -10,3 +10,4 @@ pub mod Bulk
 pub mod Machine
 pub mod Tally
 pub mod Claim
+pub mod Beside

@@ -57,6 +57,16 @@ module _ {A : Type 0} (x : ℕ) where
   look-rest T [] other h = refl
   look-rest T (r ∷ rs) other h = simp (ne-eqb x (r .key) (inner (T × (x ≡ r .key → ⊥)) rs h .1)) (look-rest (T × (x ≡ r .key → ⊥)) rs other h)
 
+-- what holds of every row's entry, and of the other value, holds of what is found
+abbrev pub Rows : {A : Type 0} → (A → Type 0) → List (Row A) → Type 0
+Rows P [] = Unit {0}
+Rows P (r ∷ rs) = P (r .entry) × Rows P rs
+
+pub look-all : {A : Type 0} (P : A → Type 0) (rs : List (Row A)) (x : ℕ) (other : A) → Rows P rs → P other → P (look rs x other)
+unfolding look
+look-all P [] x other h o = o
+look-all P (r ∷ rs) x other h o = by-if P (eqb x (r .key)) (r .entry) (look rs x other) (λ _. h .0) (λ _. look-all P rs x other (h .1) o)
+
 -- ---- an arm of several keys: a test that computes on the keys says what holds at each
 
 unfoldable pub all-are : (ℕ → ℕ) → ℕ → List ℕ → Bool
