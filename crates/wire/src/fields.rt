@@ -1,16 +1,21 @@
 // Fields of two and four bytes in slices, least byte first (USB, wrappers) and greatest byte first (SCSI).
 ghost use mathlib.Core.Path.{_≡_};
-ghost use Prim.Native.Nat.{_<_};
+ghost use Prim.Native.Nat.{_+_, _*_};
 ghost use Rattle.wire.specs.Numbers.{little, big, littleBytes, bigBytes};
 ghost use Rattle.wire.specs.Slices.{bytesAt, fits, placed};
 use crate::slices::byte;
 use crate::slices::put;
 
-// A byte as a wider number, with its bound.
-fn wide(x: u8) -> u16
-    ensures { λ r. ⌜ (r ≡ x) × (r < 256) ⌝ }
+fn join16(low: u8, high: u8) -> u16
+    ensures { λ r. ⌜ r ≡ low + 256 * high ⌝ }
 {
-    x as u16
+    (low as u16) + (high as u16) * 256
+}
+
+fn join32(low: u16, high: u16) -> u32
+    ensures { λ r. ⌜ r ≡ low + 65536 * high ⌝ }
+{
+    (low as u32) + (high as u32) * 65536
 }
 
 pub fn le16(s: &[u8], at: usize) -> u16
@@ -19,9 +24,7 @@ pub fn le16(s: &[u8], at: usize) -> u16
     if s.len() <= at {
         return 0;
     }
-    let low = wide(byte(s, at));
-    let high = wide(byte(s, at + 1));
-    low + high * 256
+    join16(byte(s, at), byte(s, at + 1))
 }
 
 pub fn be16(s: &[u8], at: usize) -> u16
@@ -30,9 +33,7 @@ pub fn be16(s: &[u8], at: usize) -> u16
     if s.len() <= at {
         return 0;
     }
-    let high = wide(byte(s, at));
-    let low = wide(byte(s, at + 1));
-    low + high * 256
+    join16(byte(s, at + 1), byte(s, at))
 }
 
 pub fn le32(s: &[u8], at: usize) -> u32
@@ -41,9 +42,7 @@ pub fn le32(s: &[u8], at: usize) -> u32
     if s.len() <= at {
         return 0;
     }
-    let low = le16(s, at);
-    let high = le16(s, at + 2);
-    (low as u32) + (high as u32) * 65536
+    join32(le16(s, at), le16(s, at + 2))
 }
 
 pub fn be32(s: &[u8], at: usize) -> u32
@@ -52,9 +51,7 @@ pub fn be32(s: &[u8], at: usize) -> u32
     if s.len() <= at {
         return 0;
     }
-    let high = be16(s, at);
-    let low = be16(s, at + 2);
-    (low as u32) + (high as u32) * 65536
+    join32(be16(s, at + 2), be16(s, at))
 }
 
 pub fn put_le16(dst: &mut [u8], at: usize, x: u16) -> bool

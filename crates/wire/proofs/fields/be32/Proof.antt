@@ -12,42 +12,23 @@ returns : tie.Need-returns
 unfolding value zeros
 returns c = simp (bytes-past 4 (c .before .before .args .at) (c .before .before .args .s .now) (c .if1 .taken))
 
-be16-requires : tie.Need-be16-requires
-be16-requires c κs = search needs
-
 add-be16 : tie.Need-add-be16
 add-be16 c = search needs
+
+be16-requires : tie.Need-be16-requires
+be16-requires c κs = search needs
 
 be16-requires-2 : tie.Need-be16-requires-2
 be16-requires-2 c κs = search needs
 
-cast-result : tie.Need-cast-result
-cast-result c = search needs
-
-cast-result-2 : tie.Need-cast-result-2
-cast-result-2 c = search needs
-
-mul-result : tie.Need-mul-result
-mul-result c = search needs
-
-add-result : tie.Need-add-result
-add-result c = search needs
+join32-requires : tie.Need-join32-requires
+join32-requires c κs = search needs
 
 returns-2 : tie.Need-returns-2
 returns-2 c =
-    let a = c .before .before .before .before .args in
+    let a = c .before .before .before .before .before .args in
     omega (arith, big-join 2 2 (a .at) (a .s .now))
 
 pub be32-spec : {M : Type 1} → statement M
 be32-spec =
-    tie.close
-    (tie.spec
-    returns
-    be16-requires
-    add-be16
-    be16-requires-2
-    cast-result
-    cast-result-2
-    mul-result
-    add-result
-    returns-2)
+    tie.close (tie.spec returns add-be16 be16-requires be16-requires-2 join32-requires returns-2)

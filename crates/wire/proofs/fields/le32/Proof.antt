@@ -21,33 +21,14 @@ add-le16 c = search needs
 le16-requires-2 : tie.Need-le16-requires-2
 le16-requires-2 c κs = search needs
 
-cast-result : tie.Need-cast-result
-cast-result c = search needs
-
-cast-result-2 : tie.Need-cast-result-2
-cast-result-2 c = search needs
-
-mul-result : tie.Need-mul-result
-mul-result c = search needs
-
-add-result : tie.Need-add-result
-add-result c = search needs
+join32-requires : tie.Need-join32-requires
+join32-requires c κs = search needs
 
 returns-2 : tie.Need-returns-2
 returns-2 c =
-    let a = c .before .before .before .before .args in
+    let a = c .before .before .before .before .before .args in
     omega (arith, little-join 2 2 (a .at) (a .s .now))
 
 pub le32-spec : {M : Type 1} → statement M
 le32-spec =
-    tie.close
-    (tie.spec
-    returns
-    le16-requires
-    add-le16
-    le16-requires-2
-    cast-result
-    cast-result-2
-    mul-result
-    add-result
-    returns-2)
+    tie.close (tie.spec returns le16-requires add-le16 le16-requires-2 join32-requires returns-2)
