@@ -10,3 +10,6 @@ pub mod Demand
 pub mod Reach
 pub mod StepLaws
 pub mod Beside
+pub mod Compute
+pub mod Sheet
+pub mod Witness

@@ -11,3 +11,5 @@ pub mod Machine
 pub mod Tally
 pub mod Claim
 pub mod Beside
+pub mod Sheet
+pub mod Witness

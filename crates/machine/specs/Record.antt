@@ -13,6 +13,7 @@ use Rattle.machine.specs.declared.record.Task.{Task}
 use Rattle.machine.specs.declared.record.Link.{Link}
 use Rattle.machine.specs.declared.record.State.{State}
 use Rattle.machine.specs.declared.record.Device.{Device}
+use Rattle.machine.specs.Fits.{blockSize}
 
 abbrev pub unit : ℕ → Sense → LogicalUnit
 unit n s = record { blocks = n; sense = s }
@@ -35,7 +36,7 @@ device i s p = record { identity = i; state = s; part = p }
 
 -- A collector as made, over so many blocks.
 unfoldable pub fresh : Identity → ℕ → Device
-fresh i n = device i (state 0 false (unit n noSense) (link false false false noTask)) (zeros 512)
+fresh i n = device i (state 0 false (unit n noSense) (link false false false noTask)) (zeros blockSize)
 
 -- No device: "all numbers zero".
 unfoldable pub noDevice : Device
@@ -51,7 +52,7 @@ droppedState s a c hi ho = state a c (unit (s .unit .blocks) noSense) (link hi h
 
 -- And the part block all zeros.
 unfoldable pub dropped : Device → ℕ → Bool → Bool → Bool → Device
-dropped d a c hi ho = device (d .identity) (droppedState (d .state) a c hi ho) (zeros 512)
+dropped d a c hi ho = device (d .identity) (droppedState (d .state) a c hi ho) (zeros blockSize)
 
 unfoldable pub withAddress : State → ℕ → State
 withAddress s a = state a (s .configured) (s .unit) (s .link)

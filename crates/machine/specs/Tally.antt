@@ -22,6 +22,7 @@ use Rattle.machine.specs.declared.answer.Answer.the-variants.{Data, Ack,
 use Rattle.machine.specs.Fits.{blockSize}
 use Rattle.machine.specs.Making.{blocksIn}
 use Rattle.machine.specs.Wrapper.{wrapperOf}
+use Rattle.machine.specs.Bulk.{packetSize}
 use Rattle.machine.specs.Machine.{Event, busReset, control, bulkOut, bulkIn}
 
 -- What a collector is made of.
@@ -78,7 +79,7 @@ turned l t bs = log t (l .address) (l .configured) (l .arrived ++ bs)
 unfoldable pub taken : ℕ → Tally → List ℕ → Log → Log
 taken n idle p l = turned l (beginning (wrapperOf n p)) []
 taken n (writing block left held) p l =
-    if eqb (length p) 64
+    if eqb (length p) packetSize
     then (if eqb (length (held ++ p)) blockSize
     then turned l (following block left) (record { number = block; bytes = held ++ p } ∷ [])
     else turned l (writing block left (held ++ p)) [])

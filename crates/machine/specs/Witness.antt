@@ -1,0 +1,76 @@
+-- Closed runs in which the premises of demand 3 are met. Proved in proofs/Witness.antt.
+use Prim.Native.Nat.{ℕ}
+use mathlib.Core.Path.{_≡_}
+use mathlib.Core.Bool.{true, false}
+use mathlib.Core.List.{List, [], _∷_, _++_}
+use lib.ListN.{take, replicate}
+use Rattle.wire.specs.Slices.{zeros}
+use Rattle.machine.specs.declared.record.Device.{Device}
+use Rattle.machine.specs.declared.answer.Answer.the-variants.{Ack, Stall}
+use Rattle.machine.specs.Wrapper.{accepted}
+use Rattle.machine.specs.Making.{make}
+use Rattle.machine.specs.Machine.{Event, control, bulkOut, bulkIn, step, run}
+use Rattle.machine.specs.Tally.{Making, writing}
+use Rattle.machine.specs.Claim.{answers, lived, history, setup, recovery, settingUp, WrapperDue, isRefusal, watched}
+use Rattle.machine.specs.Sheet.{cbw, testUnitReady, onBlocks, buffer}
+
+-- A collector of two blocks of zeros.
+abbrev pub two : Making
+two = record { identity = record { number = 42; vendor = 0; product = 0; release = 0 }; medium = zeros 1024 }
+
+abbrev pub recover : List Event
+recover = recovery true buffer buffer buffer
+
+-- ---- a write that is cut in the middle of its second block
+
+-- Address 5, configured; a Write of both blocks; the first whole, then 192 bytes of the second.
+unfoldable pub partWrite : List Event
+partWrite =
+    settingUp 5 buffer buffer
+    ++ bulkOut (cbw 1 1024 0x00 0 (onBlocks 0x2A 0 2))
+    ∷ replicate 8 (bulkOut (replicate 64 7))
+    ++ replicate 3 (bulkOut (replicate 64 9))
+
+pub record WriteCut : Type 0 where
+  pub makes : make (two .identity) (two .medium) .answer ≡ Ack
+  pub acked : answers (lived two partWrite .replies) ≡ replicate 14 Ack
+  pub configured : history two partWrite .configured ≡ true
+  pub held : history two partWrite .tally ≡ writing 1 1 (replicate 192 9)
+  pub recovers : answers (run (lived two partWrite .dev) (lived two partWrite .medium) recover .replies) ≡ (Ack ∷ Ack ∷ Ack ∷ [])
+  pub arrived : history two (partWrite ++ recover) .arrived ≡ (record { number = 0; bytes = replicate 512 7 } ∷ [])
+  pub medium : lived two (partWrite ++ recover) .medium ≡ replicate 512 7 ++ zeros 512
+
+-- ---- a lock, and its end
+
+unfoldable pub test : List ℕ
+test = cbw 1 0 0x00 0 testUnitReady
+
+-- Where a wrapper is due.
+abbrev pub before : Device
+before = lived two (settingUp 5 buffer buffer) .dev
+
+-- A wrapper of 30 bytes, and what a host may try after it.
+abbrev pub broken : List ℕ
+broken = take 30 test
+
+unfoldable pub tries : List Event
+tries =
+    bulkIn buffer
+    ∷ bulkOut test
+    ∷ control (setup 0x02 0x01 0 0x81) buffer
+    ∷ control (setup 0x02 0x01 0 0x02) buffer
+    ∷ bulkIn buffer
+    ∷ bulkOut test
+    ∷ []
+
+abbrev pub after : Device
+after = step before (zeros 1024) (bulkOut broken) .dev
+
+-- The last field is the whole story: the stall, both pipes stalled before and after the acked clearings, the recovery, a wrapper acked again.
+pub record LockRecovered : Type 0 where
+  pub due : WrapperDue before (zeros 1024)
+  pub unaccepted : accepted broken ≡ false
+  pub unrefused : isRefusal (step before (zeros 1024) (bulkOut broken) .answer) ≡ false
+  pub undropped : watched tries (answers (run after (zeros 1024) tries .replies)) .ended ≡ false
+  pub replies : answers (run before (zeros 1024) (bulkOut broken ∷ tries ++ recover ++ bulkOut test ∷ []) .replies)
+      ≡ (Stall ∷ Stall ∷ Stall ∷ Ack ∷ Ack ∷ Stall ∷ Stall ∷ Ack ∷ Ack ∷ Ack ∷ Ack ∷ [])
