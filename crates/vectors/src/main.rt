@@ -1,0 +1,21 @@
+// Runs the papers' worked values through the public functions of the leaf crates and prints what they give.
+// The file stdout was written from the papers, and the run is held to it.
+mod answer;
+mod cases;
+mod cbw;
+mod csw;
+mod descriptors;
+mod plans;
+mod print;
+mod replies;
+mod requests;
+
+fn main() {
+    descriptors::run();
+    replies::run();
+    plans::run();
+    csw::run();
+    cbw::run();
+    cases::run();
+    requests::run();
+}
