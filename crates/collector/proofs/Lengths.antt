@@ -1,0 +1,59 @@
+-- Replies, descriptors and the status wrapper are at most a packet. Assumes nothing.
+use Prim.Native.Nat.{ℕ, _-_, _≤_}
+use mathlib.Core.Path.{_≡_, refl, _∙_}
+use mathlib.Core.List.{List}
+use native.Mathlib.Omega.{arith}
+use lib.ListN.{length, take, length-append}
+use lib.Seq.{take-at, take-append-le}
+use Rattle.wire.specs.Numbers.{low, decimal}
+use Rattle.wire.specs.Packet.{packetOf}
+use Rattle.wire.specs.Slices.{zeros}
+use Rattle.wire.specs.declared.packet.Packet.{Packet}
+use Rattle.wire.proofs.Packets.{packet-is}
+use Rattle.scsi.specs.Reply.{replyData, senseData, inquiryData, modeData, capacityData, padded}
+use Rattle.scsi.specs.declared.reply.Reply as replies
+use Rattle.scsi.specs.declared.reply.Reply.the-variants as reply
+use Rattle.bot.specs.Csw.{cswBytes}
+use Rattle.bot.specs.declared.csw.Csw.{Csw}
+use Rattle.usb.specs.Descriptor.{descriptorData, deviceDescriptor, configurationDescriptor, stringDescriptor, utf16}
+use Rattle.usb.specs.declared.descriptor.Identity.{Identity}
+use Rattle.usb.specs.declared.descriptor.Descriptor.{Descriptor}
+use Rattle.usb.specs.declared.descriptor.Descriptor.the-variants as descriptor
+use Rattle.machine.specs.declared.record.Device.{Device}
+
+pub reply-long : (r : replies.Reply) → length (replyData r) ≤ 64
+unfolding senseData inquiryData modeData capacityData padded zeros low
+reply-long (reply.Sense s) = omega arith
+reply-long reply.Inquiry = omega arith
+reply-long reply.ModeSense = omega arith
+reply-long (reply.Capacity n) = omega arith
+
+pub descriptor-long : (w : Descriptor) (i : Identity) → length (descriptorData w i) ≤ 64
+unfolding deviceDescriptor configurationDescriptor stringDescriptor utf16 decimal low
+descriptor-long descriptor.Device i = omega arith
+descriptor-long descriptor.Configuration i = omega arith
+descriptor-long descriptor.Languages i = omega arith
+descriptor-long descriptor.Vendor i = omega arith
+descriptor-long descriptor.Product i = omega arith
+descriptor-long descriptor.Serial i = omega arith
+
+pub csw-long : (c : Csw) → length (cswBytes c) ≡ 13
+unfolding cswBytes low
+csw-long c = refl
+
+-- a short byte string by value
+pub record Held (k : Packet) (s : List ℕ) : Type 0 where
+  pub room : k .len ≤ length (k .bytes)
+  pub count : k .len ≡ length s
+  pub is : take (k .len) (k .bytes) ≡ s
+  pub front : (n : ℕ) → n ≤ length s → take n (k .bytes) ≡ take n s
+
+pub held : (k : Packet) (s : List ℕ) → k ≡ packetOf s → length s ≤ 64 → Held k s
+held k s e h =
+    let f = e ∙ packet-is s h in
+    record {
+      room = rw f (simp length-append (omega arith));
+      count = rw f;
+      is = rw f (take-at s (zeros (64 - length s)) (length s) refl);
+      front = λ n l. rw f (take-append-le n s (zeros (64 - length s)) l);
+    }

@@ -1,0 +1,4 @@
+pub mod Accepting
+pub mod Running
+pub mod Lengths
+pub mod Admission

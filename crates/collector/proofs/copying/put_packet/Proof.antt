@@ -1,0 +1,43 @@
+-- `put_packet` meets its contract. Assumes nothing.
+use Prim.Native.Nat.{ℕ}
+use mathlib.Core.Path.{_≡_, sym, ap, _∙_}
+use mathlib.Core.List.{List}
+use Rattle.wire.specs.Slices.{zeros, placed}
+use Rattle.wire.proofs.Lists.{placed-whole}
+use Rattle.wire.proofs.Packets.{length-zeros}
+use borrow.Author.Needs.{needs}
+use Rattle.collector.proofs.copying.put_packet.Statement.{statement}
+use Rattle.collector.proofs.copying.put_packet.Tie as tie
+
+slice-aggregate-put : tie.Need-slice-aggregate-put
+slice-aggregate-put c = search needs
+
+put-requires : tie.Need-put-requires
+put-requires c κs = search needs
+
+slice-aggregate-put-2 : tie.Need-slice-aggregate-put-2
+slice-aggregate-put-2 c = search needs
+
+put-requires-2 : tie.Need-put-requires-2
+put-requires-2 c κs = search needs
+
+same-length : tie.Need-same-length
+same-length c = search needs
+
+returns : tie.Need-returns
+unfolding zeros
+returns c =
+    let a = c .before .before .before .before .before .before .before .before .before .before .args in
+    let whole : placed (zeros 64) 0 (a .src .now) ≡ a .src .now = placed-whole _ _ (c .before .before .before .before .before .before .before .before .before .before .pre ∙ sym (length-zeros 64)) in
+    c .before .before .put2 .ensures .1 ∙ ap (λ (l : List ℕ). placed (a .dst .now) (a .at) l) (c .before .before .before .before .before .before .put .ensures .1 ∙ whole)
+
+pub put-packet-spec : {M : Type 1} → statement M
+put-packet-spec =
+    tie.close
+    (tie.spec
+    slice-aggregate-put
+    put-requires
+    slice-aggregate-put-2
+    put-requires-2
+    same-length
+    returns)
