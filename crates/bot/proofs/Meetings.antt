@@ -1,10 +1,9 @@
 -- The thirteen cases never move more than is announced. Assumes nothing.
 use Prim.Native.Nat.{ℕ, _≤_}
-use mathlib.Core.Path.{_≡_, refl, sym, ap, subst}
+use mathlib.Core.Path.{_≡_, refl, sym, subst}
 use native.Mathlib.Omega.{arith}
 use lib.Dec.{ltb, eqb}
 use borrow.Author.Tests.{ltb-true, eqb-true}
-use Rattle.wire.specs.Choice.{if_then_else_}
 use Rattle.wire.proofs.Cases.{by-if}
 use Rattle.bot.specs.declared.cases.Transfer.{Transfer}
 use Rattle.bot.specs.declared.cases.Transfer.the-variants.{None, In, Out}

@@ -5,10 +5,10 @@ use mathlib.Core.Bool.{Bool, true, false, not}
 use mathlib.Core.List.{List, [], _∷_, _++_}
 use native.Mathlib.Omega.{arith}
 use native.Mathlib.Nat.{mod-eq-of-lt}
-use lib.Dec.{eqb, leb, ltb}
+use lib.Dec.{eqb, leb}
 use lib.ListN.{length, take, drop, drop-of-length-le}
 use lib.Seq.{take-at}
-use borrow.Author.Tests.{eqb-true, eqb-false, eq-eqb, ne-eqb, le-leb, leb-true}
+use borrow.Author.Tests.{eqb-true, eqb-false, eq-eqb, le-leb, leb-true}
 use Rattle.wire.specs.Choice.{if_then_else_, _and_, look}
 use Rattle.wire.specs.Slices.{byteAt, bytesAt, Below, startsWith, fits, placed}
 use Rattle.wire.specs.Numbers.{little, littleBytes, low}

@@ -1,4 +1,4 @@
--- Document 01's "The thirteen meetings of host and device"; the number in brackets is the case of BOT 6.7.
+-- Document 01's "The thirteen meetings of host and device" (BOT 6.7): what the host announces, what the device has, what follows.
 use Prim.Native.Nat.{ℕ}
 use lib.Dec.{eqb, ltb}
 use Rattle.wire.specs.Choice.{if_then_else_}

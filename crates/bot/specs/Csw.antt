@@ -1,8 +1,7 @@
 -- The status wrapper (BOT 5.2; document 01, "Wrappers").
 use Prim.Native.Nat.{ℕ}
-use mathlib.Core.Bool.{Bool}
 use mathlib.Core.List.{List, [], _∷_, _++_}
-use lib.Dec.{eqb, leb}
+use lib.Dec.{eqb}
 use lib.ListN.{length}
 use Rattle.wire.specs.Choice.{if_then_else_, _and_, Row, row, look}
 use Rattle.wire.specs.Slices.{byteAt, bytesAt, startsWith, fits, placed}

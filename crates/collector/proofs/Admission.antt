@@ -7,7 +7,7 @@ use native.Mathlib.Omega.{arith}
 use lib.Dec.{leb, eqb}
 use lib.ListN.{length}
 use borrow.Author.Tests.{leb-true, eqb-true}
-use Rattle.wire.specs.Choice.{if_then_else_, _and_}
+use Rattle.wire.specs.Choice.{if_then_else_}
 use Rattle.wire.proofs.Cases.{both}
 use Rattle.usb.specs.Request.{requestOf}
 use Rattle.usb.specs.declared.descriptor.Identity.{Identity}

@@ -6,7 +6,6 @@ use mathlib.Core.List.{List}
 use native.Mathlib.Omega.{arith}
 use lib.ListN.{length, take, drop, length-take, length-drop}
 use borrow.Author.Tests.{leb-true, ltb-true, eqb-true, ne-eqb}
-use Rattle.wire.specs.Choice.{_and_}
 use Rattle.wire.specs.Slices.{placed}
 use Rattle.wire.proofs.Cases.{both, if-false}
 use Rattle.scsi.specs.Reply.{replyData}

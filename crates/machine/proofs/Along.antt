@@ -4,7 +4,7 @@ use Prim.Native.Nat.{ℕ}
 use mathlib.Core.List.{List, [], _∷_, _++_}
 use Rattle.machine.specs.declared.record.Device.{Device}
 use Rattle.machine.specs.declared.answer.Answer.{Answer}
-use Rattle.machine.specs.Machine.{Event, Out, Seen, Run, step, run}
+use Rattle.machine.specs.Machine.{Event, step, run}
 use Rattle.machine.specs.Tally.{observed}
 use Rattle.machine.specs.Claim.{answers}
 

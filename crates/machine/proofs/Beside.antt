@@ -1,17 +1,16 @@
 -- Every record reached fits; where a wrapper is due, exactly; and recovery can be had. Assumes nothing.
-use Prim.Native.Nat.{ℕ, _*_, _≤_, _/_, _%_}
+use Prim.Native.Nat.{ℕ, _*_, _≤_, _%_}
 use mathlib.Core.Path.{_≡_, refl, sym, ap, _∙_, subst}
 use mathlib.Core.Bool.{Bool, true, false}
 use mathlib.Core.List.{List, [], _∷_, _++_}
 use native.Mathlib.Omega.{arith}
-use lib.Dec.{leb, eqb}
 use lib.ListN.{length}
 use borrow.Author.Tests.{eqb-true, eq-eqb, le-leb}
 use Rattle.wire.specs.Choice.{if_then_else_, _and_, look}
 use Rattle.wire.specs.Bits.{bits, clear}
 use Rattle.wire.specs.Numbers.{value}
 use Rattle.wire.specs.Slices.{bytesAt, zeros, startsWith}
-use Rattle.wire.proofs.Cases.{both, if-true, if-false}
+use Rattle.wire.proofs.Cases.{both, if-false}
 use Rattle.scsi.specs.Command.{blockLength, commandOf, commands, planBy, planOf}
 use Rattle.scsi.specs.Sense.{noSense}
 use Rattle.bot.specs.Cases.{counted, meeting, caseOf}

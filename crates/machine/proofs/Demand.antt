@@ -4,11 +4,11 @@ use mathlib.Core.Path.{_≡_, refl, sym, ap, _∙_, subst}
 use mathlib.Core.Bool.{Bool, true, false}
 use mathlib.Core.List.{List, [], _∷_, _++_}
 use native.Mathlib.Omega.{arith}
-use lib.Dec.{eqb, leb}
-use lib.ListN.{length, length-append}
+use lib.Dec.{eqb}
+use lib.ListN.{length}
 use borrow.Author.Tests.{leb-true}
-use Rattle.wire.specs.Choice.{if_then_else_, _and_}
-use Rattle.wire.specs.Slices.{zeros, placed}
+use Rattle.wire.specs.Choice.{_and_}
+use Rattle.wire.specs.Slices.{placed}
 use Rattle.wire.proofs.Cases.{both, by-if, if-true}
 use Rattle.wire.proofs.Lists.{length-placed}
 use Rattle.usb.specs.declared.descriptor.Identity.{Identity}
@@ -16,12 +16,12 @@ use Rattle.machine.specs.declared.record.Device.{Device}
 use Rattle.machine.specs.declared.answer.Answer.the-variants.{Ack, Refused}
 use Rattle.machine.specs.declared.answer.Refusal.{Refusal}
 use Rattle.machine.specs.declared.answer.Refusal.the-variants as refusal
-use Rattle.machine.specs.Record.{fresh, noDevice, dropped, droppedState}
+use Rattle.machine.specs.Record.{fresh, dropped, droppedState}
 use Rattle.machine.specs.Fits.{sizeFits, numberFits, addressFits, fits}
 use Rattle.machine.specs.Making.{blocksIn, mediumServed, Made, made, make}
 use Rattle.machine.specs.Machine.{Event, Run, run}
-use Rattle.machine.specs.Tally.{Making, Block, Log, start, noted, stored}
-use Rattle.machine.specs.Claim.{answers, lived, history, recovery, settingUp, AsFresh, MediumFromHistory, Recovers, Locks, Demand3}
+use Rattle.machine.specs.Tally.{Making, Block, start, noted, stored}
+use Rattle.machine.specs.Claim.{answers, lived, history, recovery, settingUp, AsFresh, MediumFromHistory, Recovers, Demand3}
 use Rattle.machine.proofs.Along.{along, run-append-dev}
 use Rattle.machine.proofs.Sim.{Sim, simulates}
 use Rattle.machine.proofs.Recover.{recovered, recovery-fits, set-up}

@@ -1,7 +1,7 @@
 -- Where a wrapper is due on an unhalted pipe: what the two answers tell of the record. Assumes nothing.
 use Prim.Native.Nat.{ℕ}
 use mathlib.Core.Path.{_≡_, refl, sym, ap, _∙_, subst}
-use mathlib.Core.Bool.{Bool, true, false, true≢false, false≢true}
+use mathlib.Core.Bool.{Bool, true, false, true≢false}
 use mathlib.Core.List.{List, [], _∷_}
 use native.Mathlib.Omega.{arith}
 use lib.Dec.{leb, eqb}
@@ -20,10 +20,10 @@ use Rattle.machine.specs.Record.{moved}
 use Rattle.machine.specs.Outcome.{Effect, effects}
 use Rattle.machine.specs.Wrapper.{accepted}
 use Rattle.machine.specs.Bulk.{cutShort, onData, outStage, packetOut}
-use Rattle.machine.specs.Machine.{Event, bulkOut, Verdict, passes, refuses, judgedOut, onBulkOut, outInputs, Out, unlent, step, run}
-use Rattle.machine.specs.Claim.{answers, goodTest, WrapperDue}
+use Rattle.machine.specs.Machine.{bulkOut, Verdict, judgedOut, onBulkOut, outInputs, Out, unlent, step}
+use Rattle.machine.specs.Claim.{goodTest, WrapperDue}
 use Rattle.machine.specs.Beside.{IsDue}
-use Rattle.machine.proofs.Judge.{Barred, Passed, judge}
+use Rattle.machine.proofs.Judge.{Passed, judge}
 use Rattle.machine.proofs.Recover.{first}
 
 -- ---- a packet answered by 0 to 3 passed its checks

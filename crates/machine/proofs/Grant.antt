@@ -1,8 +1,8 @@
 -- Which accepted wrapper leads to data-out: the thirteen cases and the tally's own words say the same. Assumes nothing.
-use Prim.Native.Nat.{ℕ, _+_, _*_, _≤_, _<_}
-use mathlib.Core.Path.{_≡_, refl, sym, ap, _∙_}
-use mathlib.Core.Bool.{Bool, true, false, not}
-use mathlib.Core.List.{List, []}
+use Prim.Native.Nat.{ℕ, _*_, _≤_, _<_}
+use mathlib.Core.Path.{_≡_}
+use mathlib.Core.Bool.{true, false, not}
+use mathlib.Core.List.{[]}
 use native.Mathlib.Omega.{arith}
 use lib.Dec.{leb, ltb, eqb}
 use borrow.Author.Tests.{eqb-true, eqb-false, ltb-true, ltb-false, le-leb, lt-leb, lt-ltb, le-ltb}
@@ -15,7 +15,6 @@ use Rattle.bot.specs.declared.cases.Transfer.{Transfer}
 use Rattle.bot.specs.declared.cases.Transfer.the-variants.{None, In, Out}
 use Rattle.bot.specs.declared.cases.Ending.{Ending}
 use Rattle.bot.specs.declared.cases.Ending.the-variants as ending
-use Rattle.bot.specs.declared.cases.Pipe.the-variants as pipe
 use Rattle.bot.specs.declared.cases.Case.{Case}
 use Rattle.bot.specs.declared.cbw.Header.{Header}
 use Rattle.machine.specs.declared.record.Stage.{Stage}

@@ -1,8 +1,7 @@
 -- The checks, taken apart once for all events: which answers refuse, and what holds where all are passed. Assumes nothing.
-use Prim.Native.Nat.{ℕ, _*_}
+use Prim.Native.Nat.{_*_}
 use mathlib.Core.Path.{_≡_, refl, sym, _∙_}
 use mathlib.Core.Bool.{Bool, true, false, true≢false}
-use mathlib.Core.List.{List, []}
 use lib.Dec.{leb, eqb}
 use lib.ListN.{length}
 use Rattle.wire.specs.Choice.{if_then_else_, _and_}
@@ -15,7 +14,7 @@ use Rattle.machine.specs.declared.answer.Refusal.the-variants as refusal
 use Rattle.machine.specs.Answer.{numberOf, refusalNumber}
 use Rattle.machine.specs.Fits.{blockSize, fits}
 use Rattle.machine.specs.Bulk.{packetSize}
-use Rattle.machine.specs.Machine.{Lent, nothing, bytes, Inputs, where-lent, Verdict, passes, refuses, check, checks}
+use Rattle.machine.specs.Machine.{Inputs, where-lent, Verdict, passes, refuses, check, checks}
 use Rattle.machine.specs.Tally.{isAck}
 use Rattle.machine.specs.Claim.{isRefusal}
 use Rattle.machine.specs.Beside.{isQuiet}

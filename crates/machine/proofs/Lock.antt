@@ -2,9 +2,9 @@
 use Prim.Native.Nat.{ℕ}
 use mathlib.Core.Path.{_≡_, refl, sym, ap, _∙_, subst}
 use mathlib.Core.Bool.{Bool, true, false, _||_, or-true, true≢false, false≢true}
-use mathlib.Core.List.{List, [], _∷_}
+use mathlib.Core.List.{List, []}
 use lib.Dec.{eqb}
-use Rattle.wire.specs.Choice.{if_then_else_, _and_}
+use Rattle.wire.specs.Choice.{_and_}
 use Rattle.wire.proofs.Cases.{by-if, if-true, if-false, and-true}
 use Rattle.usb.specs.Request.{requestOf}
 use Rattle.usb.specs.declared.request.Endpoint.{Endpoint}
@@ -13,8 +13,6 @@ use Rattle.usb.specs.declared.request.Request.{Request}
 use Rattle.usb.specs.declared.request.Request.the-variants.{SetAddress, SetConfiguration, GetConfiguration, GetDeviceStatus, GetInterfaceStatus, GetEndpointStatus, ClearHalt, SetHalt, MassStorageReset, GetMaxLun, GetDescriptor}
 use Rattle.usb.specs.declared.request.Request.the-variants as request
 use Rattle.machine.specs.declared.record.Stage.{Stage}
-use Rattle.machine.specs.declared.record.Stage.the-variants.{Ready}
-use Rattle.machine.specs.declared.record.State.{State}
 use Rattle.machine.specs.declared.record.Device.{Device}
 use Rattle.machine.specs.declared.wrapper.Wrapper.{Wrapper}
 use Rattle.machine.specs.declared.answer.Answer.{Answer}
@@ -25,12 +23,12 @@ use Rattle.machine.specs.Outcome.{Reaction, reacts, Effect, effects}
 use Rattle.machine.specs.Control.{reset, needsConfigured, endpointStatus, haltIn, haltOut, clearHalt, setHalt, perform}
 use Rattle.machine.specs.Wrapper.{accepted, wrapperOf}
 use Rattle.machine.specs.Bulk.{lockedState, onWrapper, outStage, packetOut, packetIn}
-use Rattle.machine.specs.Machine.{Event, busReset, control, bulkOut, bulkIn, Verdict, passes, refuses, judged, judgedOut, onReset, onControl, onBulkOut, onBulkIn, resetInputs, controlInputs, outInputs, inInputs, Out, out, unlent, step, run}
-use Rattle.machine.specs.Tally.{isAck, observed}
-use Rattle.machine.specs.Claim.{answers, isDrop, ends, isRefusal, isShut, shutAt, Watch, watch, watched, StaysShut, Locks}
+use Rattle.machine.specs.Machine.{Event, busReset, control, bulkOut, bulkIn, Verdict, judged, judgedOut, onReset, onControl, onBulkOut, onBulkIn, resetInputs, controlInputs, outInputs, inInputs, Out, out, unlent, step, run}
+use Rattle.machine.specs.Tally.{isAck}
+use Rattle.machine.specs.Claim.{answers, isDrop, ends, isRefusal, isShut, shutAt, Watch, watch, watched, Locks}
 use Rattle.machine.specs.Beside.{IsDue}
 use Rattle.machine.proofs.Along.{along}
-use Rattle.machine.proofs.Judge.{Barred, Passed, judge}
+use Rattle.machine.proofs.Judge.{judge}
 use Rattle.machine.proofs.Due.{due}
 
 -- configured, locked, both pipes halted

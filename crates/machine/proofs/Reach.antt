@@ -1,12 +1,12 @@
 -- Every record reached from a fresh one fits together. Assumes nothing.
 use Prim.Native.Nat.{ℕ, _+_, _*_, _-_, _≤_, _<_, _%_, min}
-use mathlib.Core.Path.{_≡_, refl, sym, ap, _∙_, subst}
-use mathlib.Core.Bool.{Bool, true, false, not, true≢false, false≢true}
-use mathlib.Core.List.{List, [], _∷_}
+use mathlib.Core.Path.{_≡_, refl, sym, _∙_, subst}
+use mathlib.Core.Bool.{Bool, true, false, not, true≢false}
+use mathlib.Core.List.{List, []}
 use native.Mathlib.Omega.{arith}
 use lib.Dec.{leb, ltb, eqb}
 use lib.ListN.{length, drop}
-use borrow.Author.Tests.{leb-true, leb-false, ltb-true, ltb-false, eqb-true, eqb-false, le-leb, lt-ltb, eq-eqb}
+use borrow.Author.Tests.{leb-true, leb-false, ltb-true, eqb-true, eqb-false, le-leb, lt-ltb, eq-eqb}
 use Rattle.wire.specs.Choice.{if_then_else_, _and_}
 use Rattle.wire.specs.Numbers.{low}
 use Rattle.wire.specs.Slices.{zeros}
@@ -17,7 +17,6 @@ use Rattle.scsi.specs.declared.command.Plan.{Plan}
 use Rattle.scsi.specs.declared.command.Plan.the-variants.{Failed, Nothing, Reply, Read, Write}
 use Rattle.scsi.specs.declared.reply.ReplyKind.{ReplyKind}
 use Rattle.scsi.specs.declared.reply.ReplyKind.the-variants as kind
-use Rattle.scsi.specs.declared.reply.Reply as replies
 use Rattle.scsi.specs.declared.sense.Sense.{Sense}
 use Rattle.scsi.proofs.Plans.{PlanFits, replySize, plan-fits}
 use Rattle.bot.specs.Cases.{caseOf}
@@ -47,13 +46,13 @@ use Rattle.machine.specs.declared.wrapper.Wrapper.the-variants.{Broken, 
 use Rattle.machine.specs.declared.answer.Answer.the-variants.{Ack, Stall}
 use Rattle.machine.specs.Record.{task, noTask, withHalts, droppedState, dropped, withAddress, moved, withState}
 use Rattle.machine.specs.Fits.{sizeFits, numberFits, addressFits, isReady, idleFits, lockFits, taskFits, fits}
-use Rattle.machine.specs.Outcome.{Reaction, reacts, Effect, effects}
+use Rattle.machine.specs.Outcome.{Reaction, reacts, Effect}
 use Rattle.machine.specs.Control.{reset, needsConfigured, endpointStatus, haltIn, haltOut, clearHalt, setHalt, perform}
 use Rattle.machine.specs.Wrapper.{accepted, wrapperOf}
-use Rattle.machine.specs.Begin.{hostOf, hasOf, replyOf, ownStatus, dataStage, firstStage, staged, begunBy, begun}
+use Rattle.machine.specs.Begin.{hostOf, hasOf, replyOf, dataStage, firstStage, staged, begunBy, begun}
 use Rattle.machine.specs.Bulk.{lockedState, onWrapper, cutShort, gathered, nextOut, storedBlock, onData, outStage, packetOut, handedOut, onAsk, afterStatus, onStatus, inStage, packetIn}
-use Rattle.machine.specs.Machine.{Event, busReset, control, bulkOut, bulkIn, Inputs, Verdict, passes, refuses, judged, judgedOut, onReset, onControl, onBulkOut, onBulkIn, resetInputs, controlInputs, outInputs, inInputs, step}
-use Rattle.machine.proofs.Judge.{Barred, Passed, judge}
+use Rattle.machine.specs.Machine.{Event, busReset, control, bulkOut, bulkIn, Inputs, Verdict, judged, judgedOut, onReset, onControl, onBulkOut, onBulkIn, resetInputs, controlInputs, outInputs, inInputs, step}
+use Rattle.machine.proofs.Judge.{Passed, judge}
 
 -- ---- number 10, one law for each conjunct
 

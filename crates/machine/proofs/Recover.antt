@@ -1,25 +1,22 @@
 -- Mass Storage Reset and both halt clearings, all acked, leave a record that depends on identity, size and address alone;
 -- a fresh collector, given an address and configured, has that record. Assumes nothing.
-use Prim.Native.Nat.{ℕ, _+_, _*_, _≤_}
-use mathlib.Core.Path.{_≡_, refl, sym, ap, _∙_, subst}
-use mathlib.Core.Bool.{Bool, true, false, true≢false, false≢true}
+use Prim.Native.Nat.{ℕ, _≤_}
+use mathlib.Core.Path.{_≡_, refl, sym, ap, _∙_}
+use mathlib.Core.Bool.{Bool, true, false, true≢false}
 use mathlib.Core.List.{List, [], _∷_}
-use native.Mathlib.Omega.{arith}
 use native.Mathlib.Nat.{add-zero}
-use lib.Dec.{leb, eqb}
 use lib.ListN.{length}
 use borrow.Author.Tests.{le-leb, eq-eqb}
 use Rattle.wire.specs.Choice.{if_then_else_, _and_, look}
 use Rattle.wire.specs.Slices.{bytesAt}
 use Rattle.wire.specs.Numbers.{value}
-use Rattle.wire.proofs.Cases.{if-true, and-true}
+use Rattle.wire.proofs.Cases.{if-true}
 use Rattle.scsi.specs.Sense.{isNoSense}
 use Rattle.usb.specs.Request.{requestOf, decided, requests, isNoData, setAddress, setConfiguration, bare, endpoints, endpointOf, targetOf}
 use Rattle.usb.specs.declared.descriptor.Identity.{Identity}
 use Rattle.usb.specs.declared.request.Endpoint.the-variants.{BulkIn, BulkOut}
 use Rattle.usb.specs.declared.request.Request.{Request}
 use Rattle.usb.specs.declared.request.Request.the-variants.{SetAddress, SetConfiguration, ClearHalt, MassStorageReset}
-use Rattle.machine.specs.declared.record.State.{State}
 use Rattle.machine.specs.declared.record.Device.{Device}
 use Rattle.machine.specs.declared.answer.Answer.{Answer}
 use Rattle.machine.specs.declared.answer.Answer.the-variants.{Ack, Stall}
@@ -27,11 +24,10 @@ use Rattle.machine.specs.Record.{fresh, withHalts, droppedState, dropped
 use Rattle.machine.specs.Fits.{sizeFits, numberFits, addressFits, isReady, idleFits, lockFits, taskFits, fits}
 use Rattle.machine.specs.Outcome.{Reaction, reacts}
 use Rattle.machine.specs.Control.{needsConfigured, haltIn, haltOut, clearHalt, perform}
-use Rattle.machine.specs.Bulk.{packetSize}
-use Rattle.machine.specs.Machine.{Event, control, Inputs, where-lent, Verdict, passes, refuses, check, checks, judged, onControl, controlInputs, Out, out, beside, Run, step, run}
+use Rattle.machine.specs.Machine.{Event, control, where-lent, Verdict, check, checks, judged, onControl, controlInputs, Out, out, beside, step, run}
 use Rattle.machine.specs.Tally.{isAck}
 use Rattle.machine.specs.Claim.{answers, setup, recovery, settingUp}
-use Rattle.machine.proofs.Judge.{Barred, Passed, judge}
+use Rattle.machine.proofs.Judge.{judge}
 
 -- ---- the setups that the demand names are read as what they ask for
 

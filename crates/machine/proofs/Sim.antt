@@ -1,12 +1,12 @@
 -- One event keeps the history, the record and the medium together. Assumes nothing.
-use Prim.Native.Nat.{ℕ, _+_, _*_, _-_, _<_, _≤_, _%_, min}
+use Prim.Native.Nat.{ℕ, _+_, _*_, _-_, _<_, _≤_, _%_}
 use mathlib.Core.Path.{_≡_, refl, sym, ap, _∙_, subst}
 use mathlib.Core.Bool.{Bool, true, false}
-use mathlib.Core.List.{List, [], _∷_, _++_, append-nil}
+use mathlib.Core.List.{List, [], _∷_, _++_}
 use native.Mathlib.Omega.{arith}
 use lib.ListN.{length, length-append}
 use lib.Dec.{leb, ltb, eqb, lit<}
-use borrow.Author.Tests.{eqb-true, eqb-false, eq-eqb, ne-eqb, ltb-true, ltb-false, leb-false}
+use borrow.Author.Tests.{eqb-true, eq-eqb, ne-eqb, ltb-true, ltb-false, leb-false}
 use Rattle.wire.specs.Choice.{if_then_else_}
 use Rattle.wire.specs.Slices.{zeros, placed}
 use Rattle.wire.proofs.Cases.{by-if, if-true, if-false}
@@ -22,7 +22,6 @@ use Rattle.usb.specs.declared.request.Request.the-variants as request
 use Rattle.machine.specs.declared.record.Stage.{Stage}
 use Rattle.machine.specs.declared.record.Stage.the-variants.{Ready, DataOut, DataIn, ReplyIn, StatusDue}
 use Rattle.machine.specs.declared.record.Task.{Task}
-use Rattle.machine.specs.declared.record.State.{State}
 use Rattle.machine.specs.declared.record.Device.{Device}
 use Rattle.machine.specs.declared.wrapper.Wrapper.{Wrapper}
 use Rattle.machine.specs.declared.wrapper.Wrapper.the-variants.{Broken, Good}
@@ -30,14 +29,14 @@ use Rattle.machine.specs.declared.answer.Answer.{Answer}
 use Rattle.machine.specs.declared.answer.Answer.the-variants.{Data, Ack, Nak, Stall}
 use Rattle.machine.specs.Record.{device, task, noTask, withHalts, droppedState, dropped, withAddress, moved, withState}
 use Rattle.machine.specs.Making.{blocksIn}
-use Rattle.machine.specs.Outcome.{Reaction, reacts, sends, Effect, effects}
+use Rattle.machine.specs.Outcome.{Reaction, reacts, Effect}
 use Rattle.machine.specs.Control.{reset, needsConfigured, endpointStatus, haltIn, haltOut, clearHalt, setHalt, perform}
 use Rattle.machine.specs.Wrapper.{wrapperOf}
 use Rattle.machine.specs.Begin.{begunBy, begun}
 use Rattle.machine.specs.Bulk.{lockedState, onWrapper, cutShort, gathered, nextOut, storedBlock, onData, outStage, packetOut, handedOut, onAsk, afterStatus, onStatus, inStage, packetIn}
-use Rattle.machine.specs.Machine.{Event, busReset, control, bulkOut, bulkIn, Verdict, passes, refuses, judged, judgedOut, checks, onReset, onControl, onBulkOut, onBulkIn, step, resetInputs, controlInputs, outInputs, inInputs}
+use Rattle.machine.specs.Machine.{Event, busReset, control, bulkOut, bulkIn, Verdict, judged, judgedOut, onReset, onControl, onBulkOut, onBulkIn, step, resetInputs, controlInputs, outInputs, inInputs}
 use Rattle.machine.specs.Tally.{Making, Block, Tally, idle, writing, Log, log, writeOf, beginning, following, turned, taken, heard, heeded, isAck, noted, stored}
-use Rattle.machine.proofs.Judge.{Barred, judge}
+use Rattle.machine.proofs.Judge.{judge}
 use Rattle.machine.proofs.Fill.{fill, fill-whole}
 use Rattle.machine.proofs.Grant.{Still, Begun, still, begins, grant}
 

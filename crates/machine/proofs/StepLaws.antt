@@ -8,15 +8,12 @@ use native.Mathlib.Nat.{zero-add}
 use lib.Dec.{leb, eqb}
 use lib.ListN.{length, take, drop, length-take}
 use borrow.Author.Tests.{leb-true}
-use Rattle.wire.specs.Choice.{if_then_else_}
 use Rattle.wire.specs.Numbers.{low, decimal}
-use Rattle.wire.specs.Slices.{placed, zeros}
 use Rattle.wire.specs.Texts.{ascii}
 use Rattle.wire.proofs.Cases.{by-if}
 use Rattle.wire.proofs.Lists.{placed-yes}
 use Rattle.wire.proofs.Positional.{digits}
 use Rattle.bot.specs.Csw.{cswBytes}
-use Rattle.bot.specs.declared.csw.Status.{Status}
 use Rattle.bot.specs.declared.csw.Csw.{Csw}
 use Rattle.usb.specs.Descriptor.{deviceDescriptor, configurationDescriptor, utf16, stringDescriptor, descriptorData}
 use Rattle.usb.specs.Request.{requestOf}
@@ -33,15 +30,14 @@ use Rattle.machine.specs.declared.record.Stage.the-variants.{Ready, Data
 use Rattle.machine.specs.declared.record.Device.{Device}
 use Rattle.machine.specs.declared.wrapper.Wrapper.{Wrapper}
 use Rattle.machine.specs.declared.wrapper.Wrapper.the-variants.{Broken, Good}
-use Rattle.machine.specs.declared.answer.Answer.{Answer}
 use Rattle.machine.specs.declared.answer.Answer.the-variants.{Data, Ack, Nak, Stall}
-use Rattle.machine.specs.Outcome.{Reaction, reacts, sends, Effect, effects}
+use Rattle.machine.specs.Outcome.{Reaction, reacts, sends, Effect}
 use Rattle.machine.specs.Control.{reset, needsConfigured, flag, endpointStatus, clearHalt, setHalt, perform}
 use Rattle.machine.specs.Wrapper.{wrapperOf}
 use Rattle.machine.specs.Bulk.{onWrapper, onData, outStage, packetOut, onAsk, onStatus, inStage, packetIn}
-use Rattle.machine.specs.Machine.{Event, busReset, control, bulkOut, bulkIn, Lent, bytes, Inputs, where-lent, Verdict, passes, refuses, judged, judgedOut, onReset, onControl, onBulkOut, onBulkIn, resetInputs, controlInputs, outInputs, inInputs, Out, beside, unlent, step}
-use Rattle.machine.specs.Beside.{bufferOf, isQuiet, Lawful, unchanged, stalled, locked, handed, acked, StepLaws}
-use Rattle.machine.proofs.Judge.{Barred, Passed, judge}
+use Rattle.machine.specs.Machine.{busReset, control, bulkOut, bulkIn, Lent, bytes, Inputs, where-lent, Verdict, judged, judgedOut, onReset, onControl, onBulkOut, onBulkIn, resetInputs, controlInputs, outInputs, inInputs, beside, unlent, step}
+use Rattle.machine.specs.Beside.{isQuiet, Lawful, unchanged, stalled, locked, handed, acked, StepLaws}
+use Rattle.machine.proofs.Judge.{Passed, judge}
 
 -- ---- how long what is sent can be
 

@@ -1,6 +1,6 @@
 -- An accepted wrapper (document 01, "Commands" and "The thirteen meetings of host and device").
-use Prim.Native.Nat.{ℕ, _*_}
-use mathlib.Core.Bool.{Bool, true, false}
+use Prim.Native.Nat.{_*_}
+use mathlib.Core.Bool.{Bool, true}
 use Rattle.wire.specs.Choice.{if_then_else_}
 use Rattle.scsi.specs.Sense.{noSense}
 use Rattle.scsi.specs.declared.sense.Sense.{Sense}

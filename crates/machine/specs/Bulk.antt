@@ -1,14 +1,13 @@
 -- Bulk packets (document 01, "Wrappers" and "The thirteen meetings of host and device"), once their checks are passed.
 use Prim.Native.Nat.{ℕ, _+_, _*_, _-_, min}
-use mathlib.Core.Bool.{Bool, true, false}
-use mathlib.Core.List.{List, []}
+use mathlib.Core.Bool.{Bool, true}
+use mathlib.Core.List.{List}
 use lib.Dec.{leb, ltb, eqb}
 use lib.ListN.{length, take, drop}
 use Rattle.wire.specs.Choice.{if_then_else_}
 use Rattle.wire.specs.Slices.{zeros, placed}
 use Rattle.scsi.specs.Reply.{replyData}
 use Rattle.scsi.specs.Sense.{dataPhase}
-use Rattle.scsi.specs.declared.reply.Reply as replies
 use Rattle.bot.specs.Csw.{cswBytes}
 use Rattle.bot.specs.declared.csw.Status.{Status}
 use Rattle.bot.specs.declared.csw.Status.the-variants.{Passed, Failed, PhaseError}

@@ -1,7 +1,6 @@
 -- Number 10: when a record fits together (document 01, "Numbers that come back"). The part block is free.
 use Prim.Native.Nat.{ℕ, _+_, _*_, _%_}
 use mathlib.Core.Bool.{Bool, true, false, not}
-use mathlib.Core.List.{List}
 use lib.Dec.{leb, ltb, eqb}
 use lib.ListN.{length}
 use Rattle.wire.specs.Choice.{if_then_else_, _and_}
@@ -10,7 +9,6 @@ use Rattle.scsi.specs.Reply.{replyData}
 use Rattle.usb.specs.declared.descriptor.Identity.{Identity}
 use Rattle.machine.specs.declared.record.Stage.{Stage}
 use Rattle.machine.specs.declared.record.Stage.the-variants.{Ready, DataOut, DataIn, ReplyIn, StatusDue}
-use Rattle.machine.specs.declared.record.Task.{Task}
 use Rattle.machine.specs.declared.record.Link.{Link}
 use Rattle.machine.specs.declared.record.State.{State}
 

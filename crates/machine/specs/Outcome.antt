@@ -1,13 +1,11 @@
 -- What an event leaves.
 use Prim.Native.Nat.{ℕ}
-use mathlib.Core.List.{List, []}
+use mathlib.Core.List.{List}
 use lib.ListN.{length}
 use Rattle.wire.specs.Slices.{placed}
-use Rattle.machine.specs.declared.record.State.{State}
 use Rattle.machine.specs.declared.record.Device.{Device}
 use Rattle.machine.specs.declared.answer.Answer.{Answer}
 use Rattle.machine.specs.declared.answer.Answer.the-variants.{Data}
-use Rattle.machine.specs.Record.{withState}
 
 -- An event that is lent a buffer and writes no block: answer, record, buffer.
 pub record Reaction : Type 0 where

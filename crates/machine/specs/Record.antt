@@ -1,6 +1,6 @@
 -- The records that events leave. Each literal of a record stands here and nowhere else.
 use Prim.Native.Nat.{ℕ}
-use mathlib.Core.Bool.{Bool, true, false}
+use mathlib.Core.Bool.{Bool, false}
 use mathlib.Core.List.{List}
 use Rattle.wire.specs.Slices.{zeros}
 use Rattle.scsi.specs.Sense.{noSense}

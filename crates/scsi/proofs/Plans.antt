@@ -1,14 +1,10 @@
 -- What a plan never passes: the unit's blocks, and the reply's length. Assumes nothing.
 use Prim.Native.Nat.{ℕ, _+_, _≤_}
-use mathlib.Core.Path.{_≡_, refl}
-use mathlib.Core.Bool.{Bool, true}
 use mathlib.Core.List.{List}
 use native.Mathlib.Omega.{arith}
 use lib.Dec.{ltb}
-use lib.ListN.{length, length-append}
 use borrow.Author.Tests.{leb-true, ltb-true}
-use Rattle.wire.specs.Numbers.{low}
-use Rattle.wire.specs.Slices.{byteAt, zeros}
+use Rattle.wire.specs.Slices.{byteAt}
 use Rattle.wire.proofs.Cases.{by-if, look-all}
 use Rattle.scsi.specs.declared.command.Plan.{Plan}
 use Rattle.scsi.specs.declared.command.Plan.the-variants.{Failed, Nothing, Reply, Read, Write}

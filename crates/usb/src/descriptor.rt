@@ -8,7 +8,6 @@ use wire::digits::digits;
 use wire::fields::put_le16;
 use wire::packet::Packet;
 use wire::packet::packet_of;
-use wire::slices::put;
 use wire::texts::PRODUCT;
 use wire::texts::VENDOR;
 

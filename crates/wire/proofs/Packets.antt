@@ -1,12 +1,11 @@
 -- A packet holds its bytes in front, zeros behind. Assumes nothing.
 use Prim.Native.Nat.{ℕ, zero, suc, _+_, _-_, _≤_}
 use mathlib.Core.Path.{_≡_, refl, sym, ap, _∙_}
-use mathlib.Core.List.{List, [], _∷_, _++_}
+use mathlib.Core.List.{List, _++_}
 use native.Mathlib.Omega.{arith}
 use native.Mathlib.Nat.{sub-zero, zero-sub, suc-sub-suc}
 use lib.ListN.{length, take, drop, length-replicate}
-use lib.Seq.{drop-nil, take-at}
-use Rattle.wire.specs.Choice.{if_then_else_}
+use lib.Seq.{take-at}
 use Rattle.wire.specs.Slices.{zeros, fits}
 use Rattle.wire.specs.Packet.{packetOf}
 use Rattle.wire.proofs.Cases.{if-true}

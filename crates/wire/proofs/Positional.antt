@@ -1,13 +1,13 @@
 -- The claims of specs/Claims.antt on numbers and their digits. Assumes nothing.
 use Prim.Native.Nat.{ℕ, zero, suc, _+_, _*_, _-_, _/_, _%_, _^_, _≤_, _<_}
 use mathlib.Core.Path.{_≡_, refl, sym, ap, _∙_}
-use mathlib.Core.List.{List, [], _∷_, _++_, map, map-map, map-id, reverse, reverse-cons, reverse-append, reverse-reverse}
+use mathlib.Core.List.{List, [], _∷_, _++_, map, map-map, reverse, reverse-cons, reverse-append, reverse-reverse}
 use native.Mathlib.Omega.{arith}
 use native.Mathlib.Nat.{pow-zero, pow-suc, one-le-pow, mod-one, mod-lt, mod-eq-of-lt, mul-comm, add-comm, add-mul-div-left, add-mul-mod-self-left, div-eq-of-lt, zero-add, one-mul, mul-add, mul-assoc, add-assoc, pow-succ'}
 use lib.Arith.{mod-mul}
 use lib.ListN.{length, length-reverse, length-map}
 use Rattle.wire.specs.Slices.{Every, Below, bytesAt}
-use Rattle.wire.specs.Numbers.{low, value, littleBytes, little, bigBytes, big, decimal, decimalValue}
+use Rattle.wire.specs.Numbers.{low, value, littleBytes, little, big, decimal, decimalValue}
 use Rattle.wire.specs.Claims.{WrittenIsRead, ReadIsWritten, ByteOrder, Digits}
 use Rattle.wire.proofs.Lists.{every-reverse, bytes-join, length-bytes}
 
