@@ -1,0 +1,7 @@
+pub mod Format
+pub mod Cursor
+pub mod Writing
+pub mod Print
+pub mod Turns
+pub mod Player
+pub mod Claims

@@ -1,0 +1,96 @@
+// The plain cursor reader: what stands at a place of a recording. A place is two numbers, where the event's entry stands
+// in the table of contents and where its body starts.
+ghost use mathlib.Core.Path.{_≡_};
+ghost use Rattle.recording.specs.Format.{kindOf};
+ghost use Rattle.recording.specs.Cursor.{reading, readAt};
+use wire::fields::le16;
+use wire::slices::byte;
+
+pub enum Kind {
+    Reset,
+    Control,
+    Out,
+    Ask,
+    // No kind that a recording has, or a length that the kind does not have.
+    Malformed,
+}
+
+// An event's kind and its body's length; then the next place.
+pub struct Reading {
+    pub kind: Kind,
+    pub len: usize,
+    pub entry: usize,
+    pub body: usize,
+}
+
+// The kind that the first two bytes of an entry and its length name.
+fn kind_of(first: u8, second: u8, len: usize) -> Kind
+    ensures { λ r. ⌜ r ≡ kindOf first second len ⌝ }
+{
+    if second != 0 {
+        return Kind::Malformed;
+    }
+    if first == 1 {
+        if len == 0 {
+            return Kind::Reset;
+        }
+        return Kind::Malformed;
+    }
+    if first == 2 {
+        if len == 8 {
+            return Kind::Control;
+        }
+        return Kind::Malformed;
+    }
+    if first == 3 {
+        if len <= 64 {
+            return Kind::Out;
+        }
+        return Kind::Malformed;
+    }
+    if first == 4 {
+        if len == 0 {
+            return Kind::Ask;
+        }
+        return Kind::Malformed;
+    }
+    Kind::Malformed
+}
+
+// Nothing can be read at a place: the reading stays there.
+fn stopped(entry: usize, body: usize) -> Reading
+    ensures { λ r. ⌜ r ≡ reading Kind.Malformed 0 entry body ⌝ }
+{
+    let kind = Kind::Malformed;
+    Reading {
+        kind,
+        len: 0,
+        entry,
+        body,
+    }
+}
+
+pub fn read_at(s: &[u8], entry: usize, body: usize) -> Reading
+    ensures { λ r. ⌜ r ≡ readAt (now (s .entry)) entry body ⌝ }
+{
+    if s.len() < 4 {
+        return stopped(entry, body);
+    }
+    if s.len() - 4 < entry {
+        return stopped(entry, body);
+    }
+    if s.len() < body {
+        return stopped(entry, body);
+    }
+    let len = le16(s, entry + 2) as usize;
+    if s.len() - body < len {
+        return stopped(entry, body);
+    }
+    let kind = kind_of(byte(s, entry), byte(s, entry + 1), len);
+    Reading {
+        kind,
+        len,
+        entry: entry + 4,
+        body: body + len,
+    }
+}

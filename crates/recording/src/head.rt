@@ -1,0 +1,48 @@
+// The reading head: a recording and a place in it. Its functions take it apart and call the plain cursor reader.
+ghost use mathlib.Core.Path.{_≡_};
+ghost use Rattle.recording.specs.Cursor.{readAt};
+use crate::cursor::Reading;
+use crate::cursor::read_at;
+
+pub struct Head<'a> {
+    pub recording: &'a [u8],
+    pub entry: usize,
+    pub body: usize,
+}
+
+// The head at a place of a recording.
+pub fn new<'a>(recording: &'a [u8], entry: usize, body: usize) -> Head<'a>
+    ensures { λ r. ⌜ (r .recording ≡ recording .entry) × (r .entry ≡ entry) × (r .body ≡ body) ⌝ }
+{
+    Head {
+        recording,
+        entry,
+        body,
+    }
+}
+
+// The event under the head, and the next place.
+pub fn next<'a>(h: Head<'a>) -> Reading
+    ensures { λ r. ⌜ r ≡ readAt (now (h .entry .recording)) (h .entry .entry) (h .entry .body) ⌝ }
+{
+    read_at(h.recording, h.entry, h.body)
+}
+
+// The head moved on past that event.
+pub fn advanced<'a>(h: Head<'a>) -> Head<'a>
+    ensures { λ r. ⌜ (r .recording ≡ h .entry .recording) × (r .entry ≡ readAt (now (h .entry .recording)) (h .entry .entry) (h .entry .body) .entry) × (r .body ≡ readAt (now (h .entry .recording)) (h .entry .entry) (h .entry .body) .body) ⌝ }
+{
+    let r = read_at(h.recording, h.entry, h.body);
+    Head {
+        recording: h.recording,
+        entry: r.entry,
+        body: r.body,
+    }
+}
+
+// Plain parameters, for callers that need no walk.
+pub fn read(s: &[u8], entry: usize, body: usize) -> Reading
+    ensures { λ r. ⌜ r ≡ readAt (now (s .entry)) entry body ⌝ }
+{
+    next(new(s, entry, body))
+}
