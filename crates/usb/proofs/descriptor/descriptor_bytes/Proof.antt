@@ -41,7 +41,6 @@ slice-aggregate-packet-of-3 c = search needs
 packet-of-requires-3 : tie.Need-packet-of-requires-3
 packet-of-requires-3 c κs = search needs
 
--- /work/main/target/rlib/wire.rlib/interface/lang/src/texts.rt:1:33
 enum-told-4 : tie.Need-enum-told-4
 enum-told-4 c = search needs
 
@@ -51,7 +50,6 @@ slice-aggregate-string-descriptor c = search needs
 string-descriptor-requires : tie.Need-string-descriptor-requires
 string-descriptor-requires c κs = search needs
 
--- /work/main/target/rlib/wire.rlib/interface/lang/src/texts.rt:2:35
 enum-told-5 : tie.Need-enum-told-5
 enum-told-5 c = search needs
 
