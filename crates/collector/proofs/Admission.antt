@@ -20,7 +20,7 @@ use Rattle.machine.specs.Control.{reset, perform}
 use Rattle.machine.specs.Bulk.{packetOut, packetIn}
 use Rattle.machine.specs.Machine.{Verdict, passes, refuses, check, checks, where-lent, judged, judgedOut, onReset, onControl, onBulkOut, onBulkIn, busReset, control, bulkOut, bulkIn, out, beside, unlent, step}
 use Rattle.collector.specs.Parts.{Sound}
-use Rattle.collector.specs.Gates.{chain}
+use Rattle.control.specs.Gates.{chain}
 
 sound : (i : Identity) (s : State) (m : List ℕ) → fits i s ≡ true → length m ≡ 512 * s .unit .blocks → Sound s m
 unfolding fits sizeFits

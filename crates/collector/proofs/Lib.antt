@@ -1,4 +1,3 @@
 pub mod Accepting
 pub mod Running
-pub mod Lengths
 pub mod Admission

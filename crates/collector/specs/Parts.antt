@@ -1,9 +1,9 @@
 -- What the inner functions' contracts cite: machine's definitions by the parts of the record that a function has.
-use Prim.Native.Nat.{ℕ, _+_, _*_, _-_, _%_, _≤_, _<_}
+use Prim.Native.Nat.{ℕ, _+_, _*_, _-_, _≤_, _<_}
 use mathlib.Core.Path.{_≡_}
-use mathlib.Core.Bool.{Bool, true}
+use mathlib.Core.Bool.{true}
 use mathlib.Core.List.{List}
-use lib.Dec.{leb, ltb, eqb}
+use lib.Dec.{leb}
 use lib.ListN.{length}
 use Rattle.wire.specs.Choice.{if_then_else_, _and_}
 use Rattle.scsi.specs.Sense.{dataPhase}
@@ -16,18 +16,6 @@ use Rattle.machine.specs.declared.record.State.{State}
 use Rattle.machine.specs.Record.{moved}
 use Rattle.machine.specs.Fits.{mostBlocks, taskFits}
 use Rattle.machine.specs.Bulk.{onward, nextOut, haltAtEnd}
-
--- The arms of `taskFits`, each by its numbers.
-unfoldable pub outFits : ℕ → ℕ → ℕ → ℕ → ℕ → ℕ → Bool
-outFits blocks block left held announced residue =
-    leb (block + left) blocks
-    and eqb (held % 64) 0
-    and ltb held 512
-    and leb (512 * left) residue
-    and leb residue announced
-
-unfoldable pub inFits : ℕ → ℕ → ℕ → ℕ → ℕ → Bool
-inFits size place left announced residue = leb (place + left) size and leb left residue and leb residue announced
 
 -- A plan whose first block is within any unit's size, so that its place in bytes is a u32.
 abbrev pub Near : Plan → Type 0

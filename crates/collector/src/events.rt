@@ -7,16 +7,13 @@ ghost use Rattle.machine.specs.Making as making;
 ghost use Rattle.machine.specs.Machine.{out, told, step, busReset, bulkOut, bulkIn};
 ghost use Rattle.machine.specs.Machine as machines;
 ghost use Rattle.machine.specs.Record.{fresh, noDevice};
-use crate::control::perform;
-use crate::fits::fits;
-use crate::fits::number_fits;
-use crate::fits::size_fits;
-use crate::gate::Gate;
-use crate::gate::admit;
-use crate::inward::packet_in;
-use crate::outward::packet_out;
-use crate::state::dropped_state;
-use crate::state::no_task;
+use crate::parts::control_parts;
+use crate::parts::in_parts;
+use crate::parts::out_parts;
+use crate::parts::reset_parts;
+use control::fits::number_fits;
+use control::fits::size_fits;
+use control::state::no_task;
 use machine::answer::Answer;
 use machine::answer::Refusal;
 use machine::record::Device;
@@ -25,7 +22,6 @@ use machine::record::LogicalUnit;
 use machine::record::State;
 use scsi::sense::Sense;
 use usb::descriptor::Identity;
-use usb::request::request_of;
 
 pub struct Outcome {
     pub answer: Answer,
@@ -99,100 +95,57 @@ pub fn make(identity: Identity, medium: &[u8]) -> Outcome
 }
 
 // Drops the command, and clears halts, address and configuration.
-pub fn bus_reset(device: Device) -> Outcome
+pub fn bus_reset(mut device: Device) -> Outcome
     ensures { λ r. ⌜ ((m : List ℕ) → told (out (r .answer) (r .device) m []) ≡ told (step device m busReset)) ⌝ }
 {
-    let identity = device.identity;
-    let state = device.state;
-    match admit(fits(identity, state), true, true, true, true, true) {
-        Gate::Shut(answer) => Outcome { answer, device },
-        Gate::Open => Outcome {
-            answer: Answer::Ack,
-            device: Device {
-                identity,
-                state: dropped_state(state, 0, false, false, false),
-                part: [0; 512],
-            },
-        },
-    }
+    let moved = reset_parts(device.identity, device.state, &mut device.part);
+    let answer = moved.answer;
+    let next = moved.state;
+    device.state = next;
+    Outcome { answer, device }
 }
 
 // A control request; the buffer is there also for a request that sends nothing.
 pub fn control(mut device: Device, setup: &[u8], buffer: &mut [u8]) -> Outcome
     ensures { λ r. ⌜ ((m : List ℕ) → told (out (r .answer) (r .device) m (now (buffer .exit))) ≡ told (step device m (machines.control (now (setup .entry)) (now (buffer .entry))))) ⌝ }
 {
-    let identity = device.identity;
-    let state = device.state;
-    match admit(
-        fits(identity, state),
-        true,
-        64 <= buffer.len(),
-        true,
-        setup.len() == 8,
-        true,
-    ) {
-        Gate::Shut(answer) => Outcome { answer, device },
-        Gate::Open => {
-            let request = request_of(setup);
-            let moved = perform(request, identity, state, &mut device.part, buffer);
-            let answer = moved.answer;
-            let next = moved.state;
-            device.state = next;
-            Outcome { answer, device }
-        }
-    }
+    let moved = control_parts(
+        device.identity,
+        device.state,
+        &mut device.part,
+        setup,
+        buffer,
+    );
+    let answer = moved.answer;
+    let next = moved.state;
+    device.state = next;
+    Outcome { answer, device }
 }
 
 // A packet on bulk-out: a wrapper, or data that is stored block by block.
 pub fn bulk_out(mut device: Device, medium: &mut [u8], packet: &[u8]) -> Outcome
     ensures { λ r. ⌜ told (out (r .answer) (r .device) (now (medium .exit)) []) ≡ told (step device (now (medium .entry)) (bulkOut (now (packet .entry)))) ⌝ }
 {
-    let identity = device.identity;
-    let state = device.state;
-    let unit = state.unit;
-    let blocks = unit.blocks;
-    match admit(
-        fits(identity, state),
-        medium.len() == 512 * (blocks as usize),
-        true,
-        packet.len() <= 64,
-        true,
-        state.configured,
-    ) {
-        Gate::Shut(answer) => Outcome { answer, device },
-        Gate::Open => {
-            let moved = packet_out(state, &mut device.part, medium, packet);
-            let answer = moved.answer;
-            let next = moved.state;
-            device.state = next;
-            Outcome { answer, device }
-        }
-    }
+    let moved = out_parts(
+        device.identity,
+        device.state,
+        &mut device.part,
+        medium,
+        packet,
+    );
+    let answer = moved.answer;
+    let next = moved.state;
+    device.state = next;
+    Outcome { answer, device }
 }
 
 // An ask for a packet on bulk-in: data of the medium or of a reply, or the status wrapper.
 pub fn bulk_in(mut device: Device, medium: &[u8], buffer: &mut [u8]) -> Outcome
     ensures { λ r. ⌜ told (out (r .answer) (r .device) (now (medium .entry)) (now (buffer .exit))) ≡ told (step device (now (medium .entry)) (bulkIn (now (buffer .entry)))) ⌝ }
 {
-    let identity = device.identity;
-    let state = device.state;
-    let unit = state.unit;
-    let blocks = unit.blocks;
-    match admit(
-        fits(identity, state),
-        medium.len() == 512 * (blocks as usize),
-        64 <= buffer.len(),
-        true,
-        true,
-        state.configured,
-    ) {
-        Gate::Shut(answer) => Outcome { answer, device },
-        Gate::Open => {
-            let moved = packet_in(state, medium, buffer);
-            let answer = moved.answer;
-            let next = moved.state;
-            device.state = next;
-            Outcome { answer, device }
-        }
-    }
+    let moved = in_parts(device.identity, device.state, medium, buffer);
+    let answer = moved.answer;
+    let next = moved.state;
+    device.state = next;
+    Outcome { answer, device }
 }

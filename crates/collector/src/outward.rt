@@ -12,11 +12,11 @@ ghost use Rattle.collector.specs.Parts.{Sound, Gathering, cutState, gath
 use crate::begin::begin;
 use crate::begin::read_wrapper;
 use crate::copying::put_packet;
-use crate::gate::Moved;
-use crate::state::locked_state;
-use crate::state::moved;
-use crate::state::wipe;
 use bot::csw::Status;
+use control::gate::Moved;
+use control::state::locked_state;
+use control::state::moved;
+use control::state::wipe;
 use machine::answer::Answer;
 use machine::record::Stage;
 use machine::record::State;

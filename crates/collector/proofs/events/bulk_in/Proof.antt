@@ -1,62 +1,16 @@
 -- `bulk_in` meets its contract. Assumes nothing.
-use mathlib.Core.Path.{sym, ap, _∙_}
-use borrow.Author.Tests.{leb-true}
-use Rattle.machine.specs.Record.{device}
-use Rattle.machine.specs.Machine.{told, beside}
-use Rattle.machine.specs.Outcome.{Reaction}
-use Rattle.collector.specs.Gates.{verdictOf}
-use Rattle.collector.proofs.Admission.{open-sound, open-buffer, shut-in, open-in}
 use borrow.Author.Needs.{needs}
 use Rattle.collector.proofs.events.bulk_in.Statement.{statement}
 use Rattle.collector.proofs.events.bulk_in.Tie as tie
 
-fits-requires : tie.Need-fits-requires
-fits-requires c κs = search needs
-
-cast-admit : tie.Need-cast-admit
-cast-admit c = search needs
-
-mul-admit : tie.Need-mul-admit
-mul-admit c = search needs
-
-admit-requires : tie.Need-admit-requires
-admit-requires c κs = search needs
-
-enum-known-answer : tie.Need-enum-known-answer
-enum-known-answer c = search needs
-
-enum-told : tie.Need-enum-told
-enum-told c = search needs
-
-packet-in-requires : tie.Need-packet-in-requires
-packet-in-requires c κs =
-    let v = simp (c .before .before .before .before .fits2 .ensures) at (sym (c .before .before .before .admit .ensures) ∙ ap verdictOf (c .before .enum-told .given .1)) in
-    (open-sound (c .before .before .before .before .before .before .before .before .before .before .args .device) (c .before .before .before .before .before .before .before .before .before .before .args .medium .now) _ _ _ _ v, leb-true _ _ (open-buffer _ _ _ _ _ _ v))
-
-returns : tie.Need-returns
-returns c =
-    ap told (sym (shut-in (c .before .before .before .before .before .before .before .before .before .before .args .device) (c .before .before .before .before .before .before .before .before .before .before .args .medium .now) (c .before .before .before .before .before .before .before .before .before .before .args .buffer .now) _ (simp (c .before .before .before .before .fits2 .ensures) at (sym (c .before .before .before .admit .ensures) ∙ ap verdictOf (c .before .answer .given .1)))))
+in-parts-requires : tie.Need-in-parts-requires
+in-parts-requires c κs = search needs
 
 same-length : tie.Need-same-length
 same-length c = search needs
 
-returns-2 : tie.Need-returns-2
-returns-2 c =
-    let a = c .before .before .before .before .before .before .before .before .before .before .before .before .before .before .args in
-    ap (λ (r : Reaction). told (beside (a .medium .now) r)) (c .before .before .before .packet-in .ensures (a .device .identity) (a .device .part))
-    ∙ ap told (sym (open-in (a .device) (a .medium .now) (a .buffer .now) (simp (c .before .before .before .before .before .before .before .before .fits2 .ensures) at (sym (c .before .before .before .before .before .before .before .admit .ensures) ∙ ap verdictOf (c .before .before .before .before .before .enum-told .given .1)))))
+returns : tie.Need-returns
+returns c = c .before .before .before .in-parts .ensures (c .before .before .before .before .before .before .before .args .device .part)
 
 pub bulk-in-spec : {M : Type 1} → statement M
-bulk-in-spec =
-    tie.close
-    (tie.spec
-    fits-requires
-    cast-admit
-    mul-admit
-    admit-requires
-    enum-known-answer
-    enum-told
-    packet-in-requires
-    returns
-    same-length
-    returns-2)
+bulk-in-spec = tie.close (tie.spec in-parts-requires same-length returns)

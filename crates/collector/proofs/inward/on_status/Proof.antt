@@ -1,6 +1,6 @@
 -- `on_status` meets its contract. Assumes nothing.
 use Rattle.machine.specs.Bulk.{onStatus}
-use Rattle.collector.proofs.Lengths.{csw-long}
+use Rattle.control.proofs.Lengths.{csw-long}
 use borrow.Author.Needs.{needs}
 use Rattle.collector.proofs.inward.on_status.Statement.{statement}
 use Rattle.collector.proofs.inward.on_status.Tie as tie

@@ -1,0 +1,17 @@
+-- `acked` meets its contract. Assumes nothing.
+use borrow.Author.Tests.{not-true, not-false}
+use Rattle.wire.specs.Choice.{if_then_else_}
+use Rattle.machine.specs.Control.{needsConfigured}
+use Rattle.control.proofs.requests.acked.Statement.{statement}
+use Rattle.control.proofs.requests.acked.Tie as tie
+
+returns : tie.Need-returns
+unfolding needsConfigured if_then_else_
+returns c = λ i p b. simp (not-true (c .before .args .state .configured) (c .if1 .taken))
+
+returns-2 : tie.Need-returns-2
+unfolding needsConfigured if_then_else_
+returns-2 c = λ i p b. simp (not-false (c .before .args .state .configured) (c .if1 .left))
+
+pub acked-spec : {M : Type 1} → statement M
+acked-spec = tie.close (tie.spec returns returns-2)

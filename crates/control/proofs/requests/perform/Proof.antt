@@ -1,0 +1,213 @@
+-- `perform` meets its contract. Assumes nothing.
+use mathlib.Core.Path.{sym}
+use Rattle.machine.specs.Control.{flag, perform}
+use borrow.Author.Needs.{needs}
+use Rattle.control.proofs.requests.perform.Statement.{statement}
+use Rattle.control.proofs.requests.perform.Tie as tie
+
+enum-known-request : tie.Need-enum-known-request
+enum-known-request c = search needs
+
+set-address-requires : tie.Need-set-address-requires
+set-address-requires c κs = search needs
+
+enum-known-request-2 : tie.Need-enum-known-request-2
+enum-known-request-2 c = search needs
+
+set-configuration-requires : tie.Need-set-configuration-requires
+set-configuration-requires c κs = search needs
+
+enum-told : tie.Need-enum-told
+enum-told c = search needs
+
+get-configuration-requires : tie.Need-get-configuration-requires
+get-configuration-requires c κs = search needs
+
+enum-told-2 : tie.Need-enum-told-2
+enum-told-2 c = search needs
+
+flag-requires : tie.Need-flag-requires
+flag-requires c κs = search needs
+
+slice-aggregate-send : tie.Need-slice-aggregate-send
+slice-aggregate-send c = search needs
+
+send-requires : tie.Need-send-requires
+send-requires c κs = search needs
+
+enum-told-3 : tie.Need-enum-told-3
+enum-told-3 c = search needs
+
+flag-requires-2 : tie.Need-flag-requires-2
+flag-requires-2 c κs = search needs
+
+slice-aggregate-send-configured : tie.Need-slice-aggregate-send-configured
+slice-aggregate-send-configured c = search needs
+
+send-configured-requires : tie.Need-send-configured-requires
+send-configured-requires c κs = search needs
+
+enum-known-request-3 : tie.Need-enum-known-request-3
+enum-known-request-3 c = search needs
+
+endpoint-status-requires : tie.Need-endpoint-status-requires
+endpoint-status-requires c κs = search needs
+
+enum-known-request-4 : tie.Need-enum-known-request-4
+enum-known-request-4 c = search needs
+
+clear-halt-requires : tie.Need-clear-halt-requires
+clear-halt-requires c κs = search needs
+
+enum-known-request-5 : tie.Need-enum-known-request-5
+enum-known-request-5 c = search needs
+
+set-halt-requires : tie.Need-set-halt-requires
+set-halt-requires c κs = search needs
+
+enum-told-4 : tie.Need-enum-told-4
+enum-told-4 c = search needs
+
+mass-storage-reset-requires : tie.Need-mass-storage-reset-requires
+mass-storage-reset-requires c κs = search needs
+
+enum-told-5 : tie.Need-enum-told-5
+enum-told-5 c = search needs
+
+slice-aggregate-send-configured-2 : tie.Need-slice-aggregate-send-configured-2
+slice-aggregate-send-configured-2 c = search needs
+
+send-configured-requires-2 : tie.Need-send-configured-requires-2
+send-configured-requires-2 c κs = search needs
+
+enum-known-request-6 : tie.Need-enum-known-request-6
+enum-known-request-6 c = search needs
+
+get-descriptor-requires : tie.Need-get-descriptor-requires
+get-descriptor-requires c κs = search needs
+
+enum-told-6 : tie.Need-enum-told-6
+enum-told-6 c = search needs
+
+returns : tie.Need-returns
+unfolding perform
+returns c = simp (c .before .before .request .given .1) (c .set-address .ensures _ _ _)
+
+returns-2 : tie.Need-returns-2
+unfolding perform
+returns-2 c = simp (c .before .before .before .request2 .given .1) (c .set-configuration .ensures _ _)
+
+same-length : tie.Need-same-length
+same-length c = search needs
+
+returns-3 : tie.Need-returns-3
+unfolding perform
+returns-3 c =
+    simp (c .before .before .before .before .enum-told .given .1) (c .before .before .get-configuration .ensures _ _)
+
+same-length-2 : tie.Need-same-length-2
+same-length-2 c = search needs
+
+returns-4 : tie.Need-returns-4
+unfolding perform
+returns-4 c =
+    simp (c .before .before .before .before .before .before .enum-told2 .given .1, sym (c .before .before .before .before .before .flag .ensures)) (c .before .before .send .ensures _ _)
+
+same-length-3 : tie.Need-same-length-3
+same-length-3 c = search needs
+
+returns-5 : tie.Need-returns-5
+unfolding perform
+returns-5 c =
+    simp (c .before .before .before .before .before .before .enum-told3 .given .1, sym (c .before .before .before .before .before .flag2 .ensures)) (c .before .before .send-configured .ensures _ _)
+
+same-length-4 : tie.Need-same-length-4
+same-length-4 c = search needs
+
+returns-6 : tie.Need-returns-6
+unfolding perform
+returns-6 c =
+    simp (c .before .before .before .before .before .request3 .given .1) (c .before .before .endpoint-status .ensures _ _)
+
+returns-7 : tie.Need-returns-7
+unfolding perform
+returns-7 c = simp (c .before .before .request4 .given .1) (c .clear-halt .ensures _ _ _)
+
+returns-8 : tie.Need-returns-8
+unfolding perform
+returns-8 c = simp (c .before .before .request5 .given .1) (c .set-halt .ensures _ _ _)
+
+returns-9 : tie.Need-returns-9
+unfolding perform
+returns-9 c = simp (c .before .before .enum-told4 .given .1) (c .mass-storage-reset .ensures _ _)
+
+same-length-5 : tie.Need-same-length-5
+same-length-5 c = search needs
+
+returns-10 : tie.Need-returns-10
+unfolding perform
+returns-10 c =
+    simp (c .before .before .before .before .before .enum-told5 .given .1) (c .before .before .send-configured2 .ensures _ _)
+
+same-length-6 : tie.Need-same-length-6
+same-length-6 c = search needs
+
+returns-11 : tie.Need-returns-11
+unfolding perform
+returns-11 c =
+    simp (c .before .before .before .before .before .request6 .given .1) (c .before .before .get-descriptor .ensures _)
+
+returns-12 : tie.Need-returns-12
+unfolding perform
+returns-12 c = simp (c .enum-told6 .given .1)
+
+pub perform-spec : {M : Type 1} → statement M
+perform-spec =
+    tie.close
+    (tie.spec
+    enum-known-request
+    set-address-requires
+    enum-known-request-2
+    set-configuration-requires
+    enum-told
+    get-configuration-requires
+    enum-told-2
+    flag-requires
+    slice-aggregate-send
+    send-requires
+    enum-told-3
+    flag-requires-2
+    slice-aggregate-send-configured
+    send-configured-requires
+    enum-known-request-3
+    endpoint-status-requires
+    enum-known-request-4
+    clear-halt-requires
+    enum-known-request-5
+    set-halt-requires
+    enum-told-4
+    mass-storage-reset-requires
+    enum-told-5
+    slice-aggregate-send-configured-2
+    send-configured-requires-2
+    enum-known-request-6
+    get-descriptor-requires
+    enum-told-6
+    returns
+    returns-2
+    same-length
+    returns-3
+    same-length-2
+    returns-4
+    same-length-3
+    returns-5
+    same-length-4
+    returns-6
+    returns-7
+    returns-8
+    returns-9
+    same-length-5
+    returns-10
+    same-length-6
+    returns-11
+    returns-12)
