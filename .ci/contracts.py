@@ -1,4 +1,4 @@
-"""Every public function of a library has an `ensures`, none but an exported one a `requires`, and every library has must-fail edits."""
+"""Every public function of a library has an `ensures`, none a `requires`, and every library has must-fail edits."""
 import glob
 import re
 import sys
@@ -22,12 +22,12 @@ for root in sorted(glob.glob("crates/*/src/lib.rt")):
     for path in sorted(glob.glob("crates/%s/src/**/*.rt" % crate, recursive=True)):
         with open(path, encoding="utf-8") as f:
             text = re.sub(r"//[^\n]*", "", f.read())
-        for m in re.finditer(r"\bpub\s+(extern\s+\"C\"\s+)?fn\s+(\w+)", text):
+        for m in re.finditer(r"\bpub\s+(?:extern\s+\"C\"\s+)?fn\s+(\w+)", text):
             clauses = head(text, m.end())
             if "ensures" not in clauses:
-                faults.append("%s: pub fn %s has no ensures" % (path, m.group(2)))
-            if "requires" in clauses and not m.group(1):
-                faults.append("%s: pub fn %s has a requires: it should refuse instead" % (path, m.group(2)))
+                faults.append("%s: pub fn %s has no ensures" % (path, m.group(1)))
+            if "requires" in clauses:
+                faults.append("%s: pub fn %s has a requires: it should refuse instead" % (path, m.group(1)))
     if not glob.glob("crates/%s/must-fail/*.edit" % crate):
         faults.append("crates/%s has no must-fail edit" % crate)
 

@@ -1,0 +1,67 @@
+-- What an exported function answers and leaves: the machine's step on the record that C's numbers stand for.
+use Prim.Native.Nat.{ℕ}
+use mathlib.Core.List.{List, []}
+use Rattle.wire.specs.Choice.{if_then_else_}
+use Rattle.usb.specs.declared.descriptor.Identity.{Identity}
+use Rattle.machine.specs.declared.record.Device.{Device}
+use Rattle.machine.specs.Record.{device}
+use Rattle.machine.specs.Making.{ToldMade, make, toldMade}
+use Rattle.machine.specs.Machine.{Event, busReset, control, bulkOut, bulkIn, Told, told, step}
+use Rattle.capi.specs.declared.record.Given.{Given}
+use Rattle.capi.specs.declared.record.Flat as flats
+use Rattle.capi.specs.declared.record.Record.{Record}
+use Rattle.capi.specs.declared.record.Told as tolds
+use Rattle.capi.specs.Flat.{decodes, stateFrom, identityFrom, flatOf, givenOf}
+
+abbrev pub rec : Given → flats.Flat → List ℕ → Record
+rec g f p = record { given = g; flat = f; part = p }
+
+abbrev pub deviceFrom : Record → Device
+deviceFrom r = device (identityFrom (r .given)) (stateFrom (r .flat)) (r .part)
+
+abbrev pub recordOf : Device → Record
+recordOf d = rec (givenOf (d .identity)) (flatOf (d .state)) (d .part)
+
+abbrev pub answer : ℕ → ℕ → tolds.Told
+answer n k = record { number = n; count = k }
+
+-- All that a call leaves.
+pub record Left : Type 0 where
+  pub told : tolds.Told
+  pub rec : Record
+  pub medium : List ℕ
+  pub buffer : List ℕ
+
+abbrev pub left : tolds.Told → Record → List ℕ → List ℕ → Left
+left t r m b = record { told = t; rec = r; medium = m; buffer = b }
+
+abbrev pub leaves : Told → Left
+leaves t = left (answer (t .number) (t .count)) (recordOf (t .dev)) (t .medium) (t .buffer)
+
+-- The buffer that an event lends.
+unfoldable pub lent : Event → List ℕ
+lent busReset = []
+lent (control s b) = b
+lent (bulkOut p) = []
+lent (bulkIn b) = b
+
+-- Numbers that stand for no record are answered 10 and left as they were.
+unfoldable pub onRecord : Record → List ℕ → Event → Left
+onRecord r m e =
+    if decodes (r .flat)
+    then leaves (told (step (deviceFrom r) m e))
+    else left (answer 10 0) r m (lent e)
+
+-- Making: 1, 11 or 15, and the record.
+pub record LeftMade : Type 0 where
+  pub told : tolds.Told
+  pub rec : Record
+
+abbrev pub leftMade : tolds.Told → Record → LeftMade
+leftMade t r = record { told = t; rec = r }
+
+abbrev pub leavesMade : ToldMade → LeftMade
+leavesMade t = leftMade (answer (t .number) 0) (recordOf (t .dev))
+
+unfoldable pub onMaking : Identity → List ℕ → LeftMade
+onMaking i m = leavesMade (toldMade (make i m))

@@ -1,0 +1,4 @@
+pub mod Flat
+pub mod Events
+pub mod Ways
+pub mod Claims

@@ -1,0 +1,84 @@
+// The C interface: making a collector and the four events over a record that C owns. Each answers document 01's number, and
+// leaves what the specification machine leaves. include/collector.h declares it.
+ghost use Prim.Native.Nat.{ℕ};
+ghost use mathlib.Core.Path.{_≡_};
+ghost use mathlib.Core.List.{List, []};
+ghost use Rattle.machine.specs.Machine.{busReset, bulkOut, bulkIn};
+ghost use Rattle.machine.specs.Machine as machines;
+ghost use Rattle.capi.specs.Events.{left, onRecord, leftMade, onMaking};
+use crate::record::Given;
+use crate::record::Record;
+use crate::record::Told;
+use crate::turn::turn_control;
+use crate::turn::turn_in;
+use crate::turn::turn_make;
+use crate::turn::turn_out;
+use crate::turn::turn_reset;
+
+mod decode;
+mod encode;
+mod quick;
+pub mod record;
+mod turn;
+
+// A collector of these numbers over the medium; a refused making leaves a record of zeros.
+#[no_mangle]
+pub extern "C" fn collector_make(
+    held: &mut Record,
+    number: u64,
+    vendor: u16,
+    product: u16,
+    release: u16,
+    medium: &[u8],
+) -> Told
+    ensures { λ r. ⌜ leftMade r (now (held .exit)) ≡ onMaking (record { number = number; vendor = vendor; product = product; release = release }) (now (medium .entry)) ⌝ }
+{
+    let made = turn_make(
+        Given {
+            number,
+            vendor,
+            product,
+            release,
+        },
+        medium,
+    );
+    *held = made.record;
+    made.told
+}
+
+// No medium is lent to a bus reset or a control request: whichever there is stays as it was.
+#[no_mangle]
+pub extern "C" fn collector_bus_reset(held: &mut Record) -> Told
+    ensures { λ r. ⌜ ((m : List ℕ) → left r (now (held .exit)) m [] ≡ onRecord (now (held .entry)) m busReset) ⌝ }
+{
+    let turn = turn_reset(held.given, held.flat, &mut held.part);
+    held.flat = turn.flat;
+    turn.told
+}
+
+#[no_mangle]
+pub extern "C" fn collector_control(held: &mut Record, setup: &[u8], buffer: &mut [u8]) -> Told
+    ensures { λ r. ⌜ ((m : List ℕ) → left r (now (held .exit)) m (now (buffer .exit)) ≡ onRecord (now (held .entry)) m (machines.control (now (setup .entry)) (now (buffer .entry)))) ⌝ }
+{
+    let turn = turn_control(held.given, held.flat, &mut held.part, setup, buffer);
+    held.flat = turn.flat;
+    turn.told
+}
+
+#[no_mangle]
+pub extern "C" fn collector_bulk_out(held: &mut Record, medium: &mut [u8], packet: &[u8]) -> Told
+    ensures { λ r. ⌜ left r (now (held .exit)) (now (medium .exit)) [] ≡ onRecord (now (held .entry)) (now (medium .entry)) (bulkOut (now (packet .entry))) ⌝ }
+{
+    let turn = turn_out(held.given, held.flat, &mut held.part, medium, packet);
+    held.flat = turn.flat;
+    turn.told
+}
+
+#[no_mangle]
+pub extern "C" fn collector_bulk_in(held: &mut Record, medium: &[u8], buffer: &mut [u8]) -> Told
+    ensures { λ r. ⌜ left r (now (held .exit)) (now (medium .entry)) (now (buffer .exit)) ≡ onRecord (now (held .entry)) (now (medium .entry)) (bulkIn (now (buffer .entry))) ⌝ }
+{
+    let turn = turn_in(held.given, held.flat, medium, buffer);
+    held.flat = turn.flat;
+    turn.told
+}

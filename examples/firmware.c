@@ -1,0 +1,79 @@
+/*
+ * The main loop of a drive: poll the controller for an event, call the device, hand its answer to the hardware.
+ */
+#include "collector.h"
+#include "controller.h"
+
+#include <stdbool.h>
+
+enum { BLOCKS = 64 };
+
+static collector_record record;
+static uint8_t medium[BLOCKS * COLLECTOR_BLOCK_SIZE];
+
+/* False for a refusal: not the host but this program is at fault. */
+static bool hand_over(controller_endpoint endpoint, collector_answer answer, const uint8_t *buffer)
+{
+    switch (answer.number) {
+    case COLLECTOR_DATA:
+        controller_data(endpoint, buffer, answer.count);
+        return true;
+    case COLLECTOR_ACK:
+        controller_ack(endpoint);
+        return true;
+    case COLLECTOR_NAK:
+        controller_nak(endpoint);
+        return true;
+    case COLLECTOR_STALL:
+        controller_stall(endpoint);
+        return true;
+    case COLLECTOR_SILENT:
+        controller_silence(endpoint);
+        return true;
+    default:
+        return false;
+    }
+}
+
+static bool serve(controller_event event)
+{
+    uint8_t packet[CONTROLLER_PACKET_SIZE];
+    uint8_t buffer[COLLECTOR_PACKET_SIZE];
+    collector_answer answer;
+    size_t length;
+
+    switch (event) {
+    case CONTROLLER_RESET:
+        answer = collector_bus_reset(&record);
+        controller_address(record.address);
+        return answer.number == COLLECTOR_ACK;
+    case CONTROLLER_SETUP:
+        length = controller_read(CONTROLLER_CONTROL, packet);
+        answer = collector_control(&record, packet, length, buffer, sizeof buffer);
+        controller_address(record.address);
+        return hand_over(CONTROLLER_CONTROL, answer, buffer);
+    case CONTROLLER_OUT:
+        length = controller_read(CONTROLLER_BULK_OUT, packet);
+        answer = collector_bulk_out(&record, medium, sizeof medium, packet, length);
+        return hand_over(CONTROLLER_BULK_OUT, answer, buffer);
+    case CONTROLLER_IN:
+        answer = collector_bulk_in(&record, medium, sizeof medium, buffer, sizeof buffer);
+        return hand_over(CONTROLLER_BULK_IN, answer, buffer);
+    default:
+        return false;
+    }
+}
+
+int main(void)
+{
+    const uint64_t number = 42;
+    const uint16_t vendor = 0x1209, product = 0x0001, release = 0x0100;
+    controller_event event;
+
+    if (collector_make(&record, number, vendor, product, release, medium, sizeof medium).number != COLLECTOR_ACK)
+        return 1;
+    while ((event = controller_poll()) != CONTROLLER_OFF)
+        if (!serve(event))
+            return 1;
+    return 0;
+}

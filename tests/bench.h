@@ -1,0 +1,71 @@
+/*
+ * A device with all that is lent to it, the events on it, and the checks of the tests.
+ */
+#ifndef BENCH_H
+#define BENCH_H
+
+#include "collector.h"
+
+#include <stdbool.h>
+
+enum { BLOCKS = 4, MEDIUM = BLOCKS * 512, FILL = 0xEE };
+
+/* Each ends the program with a message and status 1 where it fails. */
+#define CHECK(condition) equal(condition, true, #condition, __FILE__, __LINE__)
+#define EQUAL(actual, expected) equal(actual, expected, #actual, __FILE__, __LINE__)
+
+void equal(uint64_t actual, uint64_t expected, const char *text, const char *file, int line);
+extern unsigned checks;
+
+typedef struct bench {
+    collector_record record;
+    uint8_t medium[MEDIUM];
+    uint8_t buffer[100];
+} bench;
+
+/* Compare all but a record's reserved bytes, which have no defined content. */
+bool same_record(const collector_record *a, const collector_record *b);
+bool same(const bench *a, const bench *b);
+bool filled(const uint8_t *bytes, size_t length, uint8_t value);
+
+/* An answer's number; its count must be 0 unless it is data. */
+uint32_t number_of(collector_answer answer);
+
+/* A fresh device, then also a configured one: number 42, vendor 1209 hex, product 1, release 0100 hex. */
+void make(bench *bench);
+void configure(bench *bench);
+
+/* The events with the bench's medium and buffer. */
+uint32_t control(bench *bench, const char *setup);
+uint32_t send_packet(bench *bench, const void *packet, size_t length);
+uint32_t ask(bench *bench);
+
+/* Asks for data, which must come; gives back its count. The rest of the buffer must stay. */
+size_t data_in(bench *bench);
+
+/* Sends a wrapper, which must be accepted: tag 04030201 hex, a command block of 10 bytes. */
+void command(bench *bench, uint32_t announced, uint8_t direction, const char *block);
+
+/* What the record must hold: of the command in hand; of its stage. */
+void expect_command(const bench *bench, uint32_t announced, uint32_t residue);
+void expect_stage(const bench *bench, uint8_t stage, uint32_t place, uint32_t left, uint32_t value);
+
+/* Asks for the status wrapper, which must come, and leave the device ready. */
+void expect_status(bench *bench, const char *residue, uint8_t status);
+
+#define SET_CONFIGURATION "\x00\x09\x01\x00\x00\x00\x00\x00"
+#define CLEAR_IN "\x02\x01\x00\x00\x81\x00\x00\x00"
+#define CLEAR_OUT "\x02\x01\x00\x00\x02\x00\x00\x00"
+#define MASS_STORAGE_RESET "\x21\xFF\x00\x00\x00\x00\x00\x00"
+#define GET_MAX_LUN "\xA1\xFE\x00\x00\x00\x00\x01\x00"
+
+#define TEST_UNIT_READY "\x00\x00\x00\x00\x00\x00\x00\x00\x00\x00"
+#define REQUEST_SENSE "\x03\x00\x00\x00\x12\x00\x00\x00\x00\x00"
+#define INQUIRY "\x12\x00\x00\x00\x24\x00\x00\x00\x00\x00"
+#define MODE_SENSE "\x1A\x00\x3F\x00\x04\x00\x00\x00\x00\x00"
+#define READ_CAPACITY "\x25\x00\x00\x00\x00\x00\x00\x00\x00\x00"
+#define READ_TWO_FROM_ONE "\x28\x00\x00\x00\x00\x01\x00\x00\x02\x00"
+#define WRITE_TWO_FROM_ONE "\x2A\x00\x00\x00\x00\x01\x00\x00\x02\x00"
+#define UNKNOWN_CODE "\xFF\x00\x00\x00\x00\x00\x00\x00\x00\x00"
+
+#endif

@@ -1,0 +1,234 @@
+/*
+ * The C interface as C sees it: the record's layout, every function, every number, and what a call leaves unchanged.
+ * Exit status 1 at the first failure.
+ */
+#include "bench.h"
+#include "records.h"
+
+#include <stdio.h>
+#include <string.h>
+
+static void layout(void)
+{
+    EQUAL(sizeof(collector_record), 568);
+    EQUAL(_Alignof(collector_record), 8);
+    EQUAL(sizeof(collector_answer), 16);
+    EQUAL(offsetof(collector_answer, number), 0);
+    EQUAL(offsetof(collector_answer, count), 8);
+#define AT(field, place, size)                              \
+    EQUAL(offsetof(collector_record, field), place);        \
+    EQUAL(sizeof((collector_record *)0)->field, size)
+    AT(number, 0, 8);
+    AT(vendor, 8, 2);
+    AT(product, 10, 2);
+    AT(release, 12, 2);
+    AT(reserved0, 14, 2);
+    AT(residue, 16, 4);
+    AT(place, 20, 4);
+    AT(left, 24, 4);
+    AT(value, 28, 4);
+    AT(tag, 32, 4);
+    AT(announced, 36, 4);
+    AT(blocks, 40, 4);
+    AT(stage, 44, 1);
+    AT(flags, 45, 1);
+    AT(address, 46, 1);
+    AT(sense_key, 47, 1);
+    AT(sense_asc, 48, 1);
+    AT(sense_ascq, 49, 1);
+    AT(reserved1, 50, 2);
+    AT(part, 52, 512);
+    AT(reserved2, 564, 4);
+#undef AT
+}
+
+static void making(void)
+{
+    static uint8_t large[COLLECTOR_MAX_MEDIUM_SIZE + COLLECTOR_BLOCK_SIZE];
+    static const collector_record zero;
+    static const size_t bad[] = {0, 1, 511, 513, sizeof large - 1, sizeof large};
+    static const collector_record fresh = {
+        .number = 42, .vendor = 0x1209, .product = 0x0001, .release = 0x0100, .blocks = BLOCKS
+    };
+    collector_record record;
+    bench bench;
+
+    make(&bench);
+    CHECK(same_record(&bench.record, &fresh));
+    for (size_t at = 0; at < sizeof bad / sizeof bad[0]; at++) {
+        memset(&record, FILL, sizeof record);
+        EQUAL(number_of(collector_make(&record, UINT64_MAX, 1, 2, 3, large, bad[at])), COLLECTOR_BAD_MEDIUM);
+        CHECK(same_record(&record, &zero));
+    }
+    memset(&record, FILL, sizeof record);
+    EQUAL(number_of(collector_make(&record, COLLECTOR_MAX_NUMBER + 1, 1, 2, 3, large, 512)), COLLECTOR_BAD_NUMBER);
+    CHECK(same_record(&record, &zero));
+    EQUAL(number_of(collector_bus_reset(&record)), COLLECTOR_BAD_RECORD);
+    EQUAL(number_of(collector_make(&record, COLLECTOR_MAX_NUMBER, 1, 2, 3, large, COLLECTOR_MAX_MEDIUM_SIZE)),
+          COLLECTOR_ACK);
+    EQUAL(record.number, 999999999999);
+    EQUAL(record.blocks, 4096);
+    CHECK(filled(large, sizeof large, 0));
+}
+
+/* Numbers 10 to 14 in their order, and silence after them; nothing changes. */
+static void refusals(void)
+{
+    static uint8_t other[MEDIUM + 512];
+    static const size_t bad[] = {0, MEDIUM - 1, MEDIUM - 512, MEDIUM + 512};
+    bench bench, before;
+    collector_record *record = &bench.record;
+    uint8_t packet[65] = {0};
+
+    make(&bench);
+    before = bench;
+    for (size_t at = 0; at < sizeof bad / sizeof bad[0]; at++) {
+        EQUAL(number_of(collector_bulk_out(record, other, bad[at], packet, 65)), COLLECTOR_BAD_MEDIUM);
+        EQUAL(number_of(collector_bulk_in(record, other, bad[at], bench.buffer, 63)), COLLECTOR_BAD_MEDIUM);
+    }
+    EQUAL(number_of(collector_bulk_in(record, bench.medium, MEDIUM, bench.buffer, 63)), COLLECTOR_SHORT_BUFFER);
+    EQUAL(number_of(collector_bulk_out(record, bench.medium, MEDIUM, packet, 65)), COLLECTOR_LONG_PACKET);
+    EQUAL(number_of(collector_control(record, packet, 7, bench.buffer, 63)), COLLECTOR_SHORT_BUFFER);
+    EQUAL(number_of(collector_control(record, packet, 7, bench.buffer, 64)), COLLECTOR_BAD_SETUP);
+    EQUAL(number_of(collector_control(record, packet, 9, bench.buffer, 64)), COLLECTOR_BAD_SETUP);
+    EQUAL(send_packet(&bench, packet, 31), COLLECTOR_SILENT);
+    EQUAL(ask(&bench), COLLECTOR_SILENT);
+    CHECK(same(&bench, &before));
+    record->stage = before.record.stage = 10;
+    EQUAL(number_of(collector_bus_reset(record)), COLLECTOR_BAD_RECORD);
+    EQUAL(number_of(collector_control(record, packet, 7, bench.buffer, 0)), COLLECTOR_BAD_RECORD);
+    EQUAL(number_of(collector_bulk_out(record, bench.medium, 0, packet, 65)), COLLECTOR_BAD_RECORD);
+    EQUAL(number_of(collector_bulk_in(record, bench.medium, 0, bench.buffer, 0)), COLLECTOR_BAD_RECORD);
+    CHECK(same(&bench, &before));
+    CHECK(filled(other, sizeof other, 0));
+}
+
+static void control_requests(void)
+{
+    bench bench, before;
+    collector_answer answer;
+
+    make(&bench);
+    before = bench;
+    EQUAL(control(&bench, GET_MAX_LUN), COLLECTOR_STALL);
+    EQUAL(control(&bench, "\x80\x06\x00\x01\x00\x00\x00\x00"), COLLECTOR_DATA);
+    CHECK(same(&bench, &before));
+    EQUAL(control(&bench, "\x00\x05\x7F\x00\x00\x00\x00\x00"), COLLECTOR_ACK);
+    EQUAL(bench.record.address, 0x7F);
+    EQUAL(control(&bench, SET_CONFIGURATION), COLLECTOR_ACK);
+    EQUAL(bench.record.flags, COLLECTOR_FLAG_CONFIGURED);
+    before = bench;
+    EQUAL(control(&bench, "\x00\x05\x01\x00\x00\x00\x00\x00"), COLLECTOR_STALL);
+    CHECK(same(&bench, &before));
+    answer = collector_control(&bench.record, (const uint8_t *)GET_MAX_LUN, 8, bench.buffer, sizeof bench.buffer);
+    EQUAL(answer.number, COLLECTOR_DATA);
+    EQUAL(answer.count, 1);
+    EQUAL(bench.buffer[0], 0);
+    CHECK(filled(bench.buffer + 1, sizeof bench.buffer - 1, FILL));
+    answer = collector_control(&bench.record, (const uint8_t *)"\x80\x06\x00\x01\x00\x00\x12\x00", 8, bench.buffer, 64);
+    EQUAL(answer.count, 18);
+    CHECK(memcmp(bench.buffer, "\x12\x01\x00\x02\x00\x00\x00\x40\x09\x12\x01\x00\x00\x01\x01\x02\x03\x01", 18) == 0);
+    CHECK(same_record(&bench.record, &before.record));
+    EQUAL(control(&bench, "\x02\x03\x00\x00\x81\x00\x00\x00"), COLLECTOR_ACK);
+    EQUAL(bench.record.flags, COLLECTOR_FLAG_CONFIGURED | COLLECTOR_FLAG_HALT_IN);
+    EQUAL(ask(&bench), COLLECTOR_STALL);
+    EQUAL(number_of(collector_bus_reset(&bench.record)), COLLECTOR_ACK);
+    EQUAL(bench.record.flags, 0);
+    EQUAL(bench.record.address, 0);
+}
+
+/* A broken wrapper locks; Clear Feature does not free the pipes until the command is dropped. */
+static void lock(void)
+{
+    bench bench, before;
+
+    configure(&bench);
+    before = bench;
+    EQUAL(ask(&bench), COLLECTOR_NAK);
+    CHECK(same(&bench, &before));
+    EQUAL(send_packet(&bench, "USBC", 4), COLLECTOR_STALL);
+    before.record.flags = 15;
+    CHECK(same(&bench, &before));
+    EQUAL(control(&bench, CLEAR_IN), COLLECTOR_ACK);
+    EQUAL(control(&bench, CLEAR_OUT), COLLECTOR_ACK);
+    EQUAL(send_packet(&bench, "USBC", 4), COLLECTOR_STALL);
+    EQUAL(ask(&bench), COLLECTOR_STALL);
+    CHECK(same(&bench, &before));
+    EQUAL(control(&bench, MASS_STORAGE_RESET), COLLECTOR_ACK);
+    EQUAL(bench.record.flags, COLLECTOR_FLAG_CONFIGURED | COLLECTOR_FLAG_HALT_IN | COLLECTOR_FLAG_HALT_OUT);
+    EQUAL(control(&bench, CLEAR_IN), COLLECTOR_ACK);
+    EQUAL(control(&bench, CLEAR_OUT), COLLECTOR_ACK);
+    EQUAL(bench.record.flags, COLLECTOR_FLAG_CONFIGURED);
+}
+
+static void write_and_read(void)
+{
+    bench bench, before;
+    uint8_t packet[64], block[512];
+
+    configure(&bench);
+    before = bench;
+    command(&bench, 1024, 0x00, WRITE_TWO_FROM_ONE);
+    for (int at = 0; at < 16; at++) {
+        expect_stage(&bench, COLLECTOR_STAGE_DATA_OUT, 1 + at / 8, 2 - at / 8, at % 8 * 64);
+        expect_command(&bench, 1024, 1024 - at / 8 * 512);
+        CHECK(filled(bench.record.part + at % 8 * 64, 512 - at % 8 * 64, 0));
+        EQUAL(ask(&bench), COLLECTOR_NAK);
+        memset(packet, 0x80 + at, sizeof packet);
+        EQUAL(send_packet(&bench, packet, sizeof packet), COLLECTOR_ACK);
+        memcpy(block + at % 8 * 64, packet, sizeof packet);
+        if (at % 8 == 7)
+            memcpy(before.medium + 512 * (1 + at / 8), block, sizeof block);
+        CHECK(memcmp(bench.medium, before.medium, MEDIUM) == 0);
+    }
+    expect_stage(&bench, COLLECTOR_STAGE_PASSED, 0, 0, 0);
+    CHECK(filled(bench.record.part, 512, 0));
+    EQUAL(send_packet(&bench, packet, sizeof packet), COLLECTOR_NAK);
+    expect_status(&bench, "\x00\x00\x00\x00", 0);
+    command(&bench, 1024, 0x80, READ_TWO_FROM_ONE);
+    for (int at = 0; at < 16; at++) {
+        expect_stage(&bench, COLLECTOR_STAGE_DATA_IN, 512 + 64 * at, 1024 - 64 * at, 0);
+        expect_command(&bench, 1024, 1024 - 64 * at);
+        EQUAL(data_in(&bench), 64);
+        CHECK(filled(bench.buffer, 64, (uint8_t)(0x80 + at)));
+    }
+    expect_status(&bench, "\x00\x00\x00\x00", 0);
+    CHECK(memcmp(bench.medium, before.medium, MEDIUM) == 0);
+}
+
+/* Data-out of any length but 64 ends the write: phase error, and then the lock. */
+static void broken_write(void)
+{
+    bench bench, before;
+
+    configure(&bench);
+    before = bench;
+    command(&bench, 1024, 0x00, WRITE_TWO_FROM_ONE);
+    EQUAL(send_packet(&bench, bench.buffer, 64), COLLECTOR_ACK);
+    EQUAL(send_packet(&bench, bench.buffer, 10), COLLECTOR_ACK);
+    expect_stage(&bench, COLLECTOR_STAGE_PHASE_ERROR, 0, 0, 0);
+    expect_command(&bench, 1024, 1024);
+    EQUAL(bench.record.flags, COLLECTOR_FLAG_CONFIGURED | COLLECTOR_FLAG_HALT_OUT);
+    EQUAL(bench.record.sense_key, 0x0B);
+    EQUAL(bench.record.sense_asc, 0x4B);
+    EQUAL(bench.record.sense_ascq, 0x00);
+    CHECK(filled(bench.record.part, 512, 0));
+    expect_status(&bench, "\x00\x04\x00\x00", 2);
+    EQUAL(bench.record.flags, 15);
+    CHECK(memcmp(bench.medium, before.medium, MEDIUM) == 0);
+}
+
+int main(void)
+{
+    layout();
+    making();
+    refusals();
+    control_requests();
+    lock();
+    write_and_read();
+    broken_write();
+    records_that_do_not_decode();
+    records_that_do_not_fit();
+    printf("interface: %u checks passed\n", checks);
+    return 0;
+}
