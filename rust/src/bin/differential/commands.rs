@@ -1,0 +1,132 @@
+//! Command wrappers as a host makes them: right ones, unfitting ones and damaged ones.
+
+use crate::random::Random;
+use ordinary::device::BLOCK;
+use ordinary::scsi::{self, code, Data, Sense};
+use ordinary::wrapper::{CBW_SIGNATURE, CBW_SIZE};
+
+const CODES: [u8; 14] = [
+    code::TEST_UNIT_READY,
+    code::REQUEST_SENSE,
+    code::REQUEST_SENSE,
+    code::INQUIRY,
+    code::MODE_SENSE,
+    code::PREVENT_ALLOW,
+    code::READ_CAPACITY,
+    code::READ,
+    code::READ,
+    code::READ,
+    code::WRITE,
+    code::WRITE,
+    code::WRITE,
+    code::VERIFY,
+];
+
+/// A packet that is mostly an accepted wrapper.
+pub fn wrapper(random: &mut Random, blocks: u32) -> Vec<u8> {
+    let block = command(random, blocks);
+    let (announced, data_in) = announce(random, &block, blocks);
+    let need = scsi::block_length(block[0]);
+    let length = match random.below(3) {
+        0 => need + random.below(u64::from(17 - need)) as u8,
+        1 => 16,
+        _ => need,
+    };
+    let mut packet = Vec::with_capacity(64);
+    packet.extend(CBW_SIGNATURE);
+    packet.extend((random.number() as u32).to_le_bytes());
+    packet.extend(announced.to_le_bytes());
+    packet.extend([u8::from(data_in) << 7, 0, length]);
+    packet.extend(block);
+    if random.one_in(25) {
+        damage(random, &mut packet, need);
+    }
+    packet
+}
+
+/// A command block, mostly one that passes; bytes that the device has to ignore are often set.
+pub fn command(random: &mut Random, blocks: u32) -> [u8; 16] {
+    let mut block = [0; 16];
+    if random.one_in(3) {
+        random.fill(&mut block);
+    }
+    block[0] = if random.one_in(20) { random.number() as u8 } else { random.pick(&CODES) };
+    match block[0] {
+        code::READ | code::WRITE => block[1] &= 0x1F,
+        code::VERIFY => block[1] &= 0x1D,
+        code::PREVENT_ALLOW => block[4] &= 0xFE,
+        code::MODE_SENSE => block[2] = 0x3F,
+        code::INQUIRY => (block[1], block[2]) = (block[1] & 0xFE, 0),
+        _ => block[1] &= 0xFE,
+    }
+    match block[0] {
+        code::READ | code::WRITE | code::VERIFY => place(random, &mut block, blocks),
+        code::REQUEST_SENSE | code::INQUIRY | code::MODE_SENSE => {
+            block[4] = random.pick(&[0, 1, 4, 5, 18, 36, 36, 64, 192, 255, block[4]]);
+        }
+        _ => {}
+    }
+    if random.one_in(12) {
+        let at = 1 + random.below(4) as usize;
+        block[at] ^= 1 << random.pick(&[0, 0, 0, 1, 2, 3, 4, 5, 6, 7]);
+    }
+    block
+}
+
+/// Block address and count: mostly within the unit, often at its end or just past it.
+fn place(random: &mut Random, block: &mut [u8; 16], blocks: u32) {
+    let count = match random.below(10) {
+        0 => 0,
+        1 => random.number() as u16,
+        2 => blocks as u16 + random.below(2) as u16,
+        3 => 1 + random.below(u64::from(blocks)) as u16,
+        4 | 5 => 2,
+        _ => 1,
+    };
+    let last = blocks.saturating_sub(count.into());
+    let address = match random.below(12) {
+        0 => random.number() as u32,
+        1 => u32::MAX.wrapping_sub(random.below(u64::from(count) + 2) as u32),
+        2 => blocks,
+        3 => last + 1,
+        4 | 5 => last,
+        _ => random.below(u64::from(last) + 1) as u32,
+    };
+    block[2..6].copy_from_slice(&address.to_be_bytes());
+    block[7..9].copy_from_slice(&count.to_be_bytes());
+}
+
+/// The announced length and direction: mostly those of the device's data.
+fn announce(random: &mut Random, block: &[u8; 16], blocks: u32) -> (u32, bool) {
+    let (length, data_in) = match scsi::decide(block, Sense::NONE, blocks) {
+        Ok(Data::Reply { length, .. }) => (length, true),
+        Ok(Data::Read { count, .. }) => (count * BLOCK as u32, true),
+        Ok(Data::Write { count, .. }) => (count * BLOCK as u32, false),
+        Ok(Data::None) | Err(_) => (0, random.one_in(2)),
+    };
+    let announced = match random.below(16) {
+        0 => 0,
+        1 => length + 1 + random.below(600) as u32,
+        2 => length + BLOCK as u32,
+        3 => random.below(u64::from(length) + 1) as u32,
+        4 => length.saturating_sub(1),
+        5 => random.number() as u32,
+        6 => random.pick(&[18, 36, 64, 255, 512, u32::MAX]),
+        _ => length,
+    };
+    (announced, data_in ^ random.one_in(20))
+}
+
+/// Makes a wrapper that is mostly not accepted.
+fn damage(random: &mut Random, packet: &mut Vec<u8>, need: u8) {
+    match random.below(8) {
+        0 => packet.truncate(random.below(CBW_SIZE as u64) as usize),
+        1 => packet.truncate(CBW_SIZE - 1),
+        2 => packet.resize(CBW_SIZE + 1 + random.below(33) as usize, 0),
+        3 => packet[random.below(4) as usize] ^= 1 << random.below(8),
+        4 => packet[12] |= 1 << random.below(7),
+        5 => packet[13] |= 1 << random.below(8),
+        6 => packet[14] = random.pick(&[0, need - 1, 17, 31, 32, 33, 48, 64, 128, 255]),
+        _ => *packet = random.bytes(CBW_SIZE as u64),
+    }
+}

@@ -1,0 +1,116 @@
+//! What a run has met, its table, and what is owed of every run.
+
+use crate::event::Event;
+use crate::pair::Played;
+use ordinary::cases::Case;
+use ordinary::record::{stage, Record};
+use ordinary::scsi::{self, code, Data, Sense};
+use ordinary::wrapper::Cbw;
+
+const KINDS: [&str; 5] = ["make", "bus reset", "control", "bulk-out", "bulk-in"];
+const NUMBERS: [usize; 11] = [0, 1, 2, 3, 4, 10, 11, 12, 13, 14, 15];
+/// The answers that each kind can give: all are owed.
+const OWED: [&[usize]; 5] =
+    [&[1, 11, 15], &[1, 10], &[0, 1, 3, 10, 12, 14], &[1, 2, 3, 4, 10, 11, 13], &[0, 2, 3, 4, 10, 11, 12]];
+const COMMANDS: [(u8, &str); 9] = [
+    (code::TEST_UNIT_READY, "Test Unit Ready"),
+    (code::REQUEST_SENSE, "Request Sense"),
+    (code::INQUIRY, "Inquiry"),
+    (code::MODE_SENSE, "Mode Sense"),
+    (code::PREVENT_ALLOW, "Prevent/Allow"),
+    (code::READ_CAPACITY, "Read Capacity"),
+    (code::READ, "Read"),
+    (code::WRITE, "Write"),
+    (code::VERIFY, "Verify"),
+];
+const STATUSES: [&str; 3] = ["passed", "failed", "phase error"];
+
+#[derive(Default)]
+pub struct Coverage {
+    answers: [[u64; 16]; 5],
+    /// By command of the table, the last for any other; passed, failed, phase error found at the wrapper.
+    commands: [[u64; 3]; COMMANDS.len() + 1],
+    cases: [u64; 14],
+    statuses: [u64; 3],
+}
+
+impl Coverage {
+    /// Notes an event that was played on a device that was in the state of `before`.
+    pub fn note(&mut self, before: &Record, event: &Event, played: &Played) {
+        let kind = match event {
+            Event::Make { .. } => 0,
+            Event::BusReset => 1,
+            Event::Control { .. } => 2,
+            Event::BulkOut { .. } => 3,
+            Event::BulkIn { .. } => 4,
+        };
+        let number = played.answer.number as usize;
+        self.answers[kind][number] += 1;
+        match event {
+            Event::BulkOut { packet, .. } if number == 1 && before.stage == stage::READY => {
+                self.note_wrapper(before, packet);
+            }
+            Event::BulkIn { .. } if number == 0 && before.stage >= stage::PASSED => {
+                self.statuses[usize::from(played.buffer[12])] += 1;
+            }
+            _ => {}
+        }
+    }
+
+    fn note_wrapper(&mut self, before: &Record, packet: &[u8]) {
+        let Some(cbw) = Cbw::accept(packet) else { return };
+        let found = Sense::new(before.sense_key, before.sense_asc, before.sense_ascq);
+        let outcome = scsi::decide(cbw.block, found, before.blocks);
+        let case = Case::of(&cbw, &outcome.unwrap_or(Data::None));
+        let index = COMMANDS.iter().position(|(code, _)| *code == cbw.block[0]).unwrap_or(COMMANDS.len());
+        let column = if case.is_phase_error() { 2 } else { usize::from(outcome.is_err()) };
+        self.commands[index][column] += 1;
+        self.cases[case as usize] += 1;
+    }
+
+    pub fn print(&self) {
+        println!("\nevents by answer");
+        let header: String = NUMBERS.iter().map(|number| format!("{number:>9}")).collect();
+        println!("  {:<18}{header}", "");
+        for (kind, counts) in KINDS.iter().zip(&self.answers) {
+            let row: String = NUMBERS.iter().map(|number| format!("{:>9}", counts[*number])).collect();
+            println!("  {kind:<18}{row}");
+        }
+        println!("\naccepted wrappers by command and verdict at the wrapper");
+        println!("  {:<21}{:>9}{:>9}{:>13}", "", STATUSES[0], STATUSES[1], STATUSES[2]);
+        for ((operation, name), [passed, failed, phase]) in COMMANDS.iter().zip(&self.commands) {
+            println!("  {operation:02X} {name:<18}{passed:>9}{failed:>9}{phase:>13}");
+        }
+        println!("  {:<30}{:>9}", "any other code", self.commands[COMMANDS.len()][1]);
+        println!("\nthe thirteen meetings of host and device");
+        for case in Case::ALL {
+            println!("  {:>2} {:<18}{:>9}", case as usize, format!("{case:?}"), self.cases[case as usize]);
+        }
+        println!("\nstatuses handed out");
+        for (name, count) in STATUSES.iter().zip(&self.statuses) {
+            println!("  {name:<21}{count:>9}");
+        }
+    }
+
+    /// What is owed of a run and did not occur.
+    pub fn missing(&self) -> Vec<String> {
+        let mut missing = vec![];
+        for ((kind, numbers), counts) in KINDS.iter().zip(OWED).zip(&self.answers) {
+            let absent = numbers.iter().filter(|number| counts[**number] == 0);
+            missing.extend(absent.map(|number| format!("{kind} answered {number}")));
+        }
+        let absent = Case::ALL.iter().filter(|case| self.cases[**case as usize] == 0);
+        missing.extend(absent.map(|case| format!("case {case:?}")));
+        for ((operation, name), counts) in COMMANDS.iter().zip(&self.commands) {
+            if counts[0] == 0 {
+                missing.push(format!("{operation:02X} {name} passed"));
+            }
+        }
+        for (name, count) in STATUSES.iter().zip(&self.statuses) {
+            if *count == 0 {
+                missing.push(format!("status {name}"));
+            }
+        }
+        missing
+    }
+}

@@ -1,0 +1,79 @@
+//! An event with all that is lent to it, so that a list of events can be played again.
+
+use ordinary::device::Identity;
+use std::fmt;
+
+/// The medium lent: the trial's own, or another of some length.
+#[derive(Clone, Copy, PartialEq, Eq)]
+pub enum Lent {
+    Own,
+    Other(usize),
+}
+
+/// The buffer lent: its length, and the seed of the bytes that it holds beforehand.
+#[derive(Clone, Copy)]
+pub struct Buffer {
+    pub length: usize,
+    pub seed: u64,
+}
+
+#[derive(Clone)]
+pub enum Event {
+    Make { identity: Identity, medium: Lent },
+    BusReset,
+    Control { setup: Vec<u8>, buffer: Buffer },
+    BulkOut { medium: Lent, packet: Vec<u8> },
+    BulkIn { medium: Lent, buffer: Buffer },
+}
+
+impl Event {
+    pub fn medium(&self) -> Lent {
+        match *self {
+            Event::Make { medium, .. } | Event::BulkOut { medium, .. } | Event::BulkIn { medium, .. } => {
+                medium
+            }
+            Event::BusReset | Event::Control { .. } => Lent::Own,
+        }
+    }
+
+    pub fn buffer(&self) -> Option<Buffer> {
+        match *self {
+            Event::Control { buffer, .. } | Event::BulkIn { buffer, .. } => Some(buffer),
+            _ => None,
+        }
+    }
+}
+
+struct Hex<'a>(&'a [u8]);
+
+impl fmt::Display for Hex<'_> {
+    fn fmt(&self, f: &mut fmt::Formatter) -> fmt::Result {
+        write!(f, "{} bytes:", self.0.len())?;
+        self.0.iter().try_for_each(|byte| write!(f, " {byte:02X}"))
+    }
+}
+
+impl fmt::Display for Lent {
+    fn fmt(&self, f: &mut fmt::Formatter) -> fmt::Result {
+        match self {
+            Lent::Own => write!(f, "own medium"),
+            Lent::Other(length) => write!(f, "medium of {length} bytes"),
+        }
+    }
+}
+
+impl fmt::Display for Event {
+    fn fmt(&self, f: &mut fmt::Formatter) -> fmt::Result {
+        match self {
+            Event::Make { identity, medium } => write!(f, "make {identity:?}, {medium}"),
+            Event::BusReset => write!(f, "bus reset"),
+            Event::Control { setup, buffer } => {
+                write!(f, "control, setup of {}, buffer of {} bytes", Hex(setup), buffer.length)
+            }
+            Event::BulkOut { medium, packet } => write!(f, "bulk-out, {medium}, packet of {}", Hex(packet)),
+            Event::BulkIn { medium, buffer } => {
+                write!(f, "bulk-in, {medium}, buffer of {} bytes", buffer.length)
+            }
+        }
+    }
+}

@@ -1,0 +1,178 @@
+//! A host that mostly does the sensible next thing for the device's state, and now and then something else.
+
+use crate::commands::wrapper;
+use crate::event::{Buffer, Event, Lent};
+use crate::random::Random;
+use crate::requests::{self, Setup};
+use ordinary::device::{Identity, BLOCK, MAX_BLOCKS, MAX_NUMBER, PACKET};
+use ordinary::record::{stage, Record};
+
+/// The next event for a device in the state of `record` whose own medium has `own` bytes.
+pub fn next(random: &mut Random, record: &Record, own: usize) -> Event {
+    if record.blocks as usize * BLOCK != own && random.one_in(3) {
+        return Event::Make { identity: identity(random), medium: Lent::Own };
+    }
+    if random.one_in(10) {
+        return odd(random, record, own);
+    }
+    if !record.configured() {
+        return enumerate(random, record);
+    }
+    if record.locked() {
+        return recover(random, record);
+    }
+    proceed(random, record)
+}
+
+pub fn control(random: &mut Random, setup: Setup) -> Event {
+    Event::Control { setup: setup.to_vec(), buffer: buffer(random) }
+}
+
+pub fn ask(random: &mut Random) -> Event {
+    Event::BulkIn { medium: Lent::Own, buffer: buffer(random) }
+}
+
+pub fn send(packet: Vec<u8>) -> Event {
+    Event::BulkOut { medium: Lent::Own, packet }
+}
+
+fn buffer(random: &mut Random) -> Buffer {
+    let length = if random.one_in(4) { PACKET + random.below(70) as usize } else { PACKET };
+    Buffer { length, seed: random.number() }
+}
+
+/// A wrapper where one is due, else data.
+pub fn packet(random: &mut Random, record: &Record) -> Vec<u8> {
+    if record.stage != stage::DATA_OUT {
+        return wrapper(random, record.blocks);
+    }
+    let length = if random.one_in(60) { random.below(PACKET as u64 + 1) } else { PACKET as u64 };
+    random.bytes(length)
+}
+
+fn enumerate(random: &mut Random, record: &Record) -> Event {
+    match random.below(10) {
+        0..=3 => control(random, requests::SET_CONFIGURATION),
+        4..=7 => {
+            let setup = requests::known(random);
+            control(random, setup)
+        }
+        8 => send(packet(random, record)),
+        _ => ask(random),
+    }
+}
+
+/// Out of the lock: mostly Mass Storage Reset; a Clear Feature alone must not do.
+fn recover(random: &mut Random, record: &Record) -> Event {
+    match random.below(8) {
+        0..=2 => control(random, requests::MASS_STORAGE_RESET),
+        3 => control(random, requests::CLEAR_IN),
+        4 => control(random, requests::CLEAR_OUT),
+        5 => send(packet(random, record)),
+        6 => ask(random),
+        _ => {
+            let setup = requests::known(random);
+            control(random, setup)
+        }
+    }
+}
+
+/// The next step of a command. A stall is mostly met before the halt is cleared.
+fn proceed(random: &mut Random, record: &Record) -> Event {
+    let met = !random.one_in(4);
+    match record.stage {
+        stage::READY | stage::DATA_OUT if record.halt_out() && met => control(random, requests::CLEAR_OUT),
+        stage::READY | stage::DATA_OUT => send(packet(random, record)),
+        _ if record.halt_in() && met => control(random, requests::CLEAR_IN),
+        _ => ask(random),
+    }
+}
+
+/// Something out of turn, or an input that is refused.
+fn odd(random: &mut Random, record: &Record, own: usize) -> Event {
+    match random.below(20) {
+        0 => Event::BusReset,
+        1 => making(random, own),
+        2..=5 => {
+            let setup = requests::known(random);
+            control(random, setup)
+        }
+        6..=9 => {
+            let setup = requests::strange(random);
+            control(random, setup)
+        }
+        10 | 11 => ask(random),
+        12 => send(wrapper(random, record.blocks)),
+        13 => send(random.bytes(64)),
+        14 => {
+            let length = random.below(65);
+            send(random.bytes(length))
+        }
+        _ => refused(random, record, own),
+    }
+}
+
+/// An event with one or more inputs that are refused, so that the order of the checks shows.
+fn refused(random: &mut Random, record: &Record, own: usize) -> Event {
+    let medium = if random.one_in(2) { wrong_medium(random, own) } else { Lent::Own };
+    let mut buffer = buffer(random);
+    if random.one_in(2) {
+        let short = random.below(64) as usize;
+        buffer.length = random.pick(&[0, 1, 18, 32, 62, 63, short]);
+    }
+    match random.below(3) {
+        0 => Event::BulkIn { medium, buffer },
+        1 => {
+            let mut packet = packet(random, record);
+            if random.one_in(2) {
+                packet.resize(PACKET + 1 + random.below(80) as usize, 0x5A);
+            }
+            Event::BulkOut { medium, packet }
+        }
+        _ => {
+            let mut setup = requests::known(random).to_vec();
+            if random.one_in(2) {
+                setup.resize(random.pick(&[0, 1, 6, 7, 9, 10, 16, 64]), 0);
+            }
+            Event::Control { setup, buffer }
+        }
+    }
+}
+
+fn wrong_medium(random: &mut Random, own: usize) -> Lent {
+    Lent::Other(match random.below(40) {
+        0 => MAX_BLOCKS as usize * BLOCK + BLOCK,
+        1..=9 => 0,
+        10..=19 => own + random.pick(&[1, 256, 511]),
+        20..=29 => own - random.pick(&[1, 256, 511, 512]),
+        _ => own + BLOCK * (1 + random.below(3) as usize),
+    })
+}
+
+pub fn identity(random: &mut Random) -> Identity {
+    let number = match random.below(4) {
+        0 => random.pick(&[0, 42, MAX_NUMBER]),
+        1 => random.below(1_000_000),
+        _ => random.below(MAX_NUMBER + 1),
+    };
+    Identity {
+        number,
+        vendor: random.number() as u16,
+        product: random.number() as u16,
+        release: random.number() as u16,
+    }
+}
+
+/// A making out of turn: with a good or a bad medium, with a good number or one too large.
+fn making(random: &mut Random, own: usize) -> Event {
+    let mut identity = identity(random);
+    if random.one_in(2) {
+        let large = random.number() | 1 << 40;
+        identity.number = random.pick(&[MAX_NUMBER + 1, u64::MAX, large]);
+    }
+    let medium = match random.below(3) {
+        0 => Lent::Own,
+        _ => wrong_medium(random, own),
+    };
+    Event::Make { identity, medium }
+}

@@ -1,0 +1,145 @@
+//! The differential test: random events are played on the ordinary and on the proved device, and after each event
+//! the answer, the whole buffer, the whole medium and the whole record must be the same.
+//!
+//! `cargo run --release --bin differential -- [--seed N] [--events N] [--seconds N]`
+
+mod commands;
+mod coverage;
+mod damage;
+mod event;
+mod host;
+mod pair;
+mod random;
+mod requests;
+mod trial;
+
+use coverage::Coverage;
+use damage::Damage;
+use random::Random;
+use std::process::ExitCode;
+use std::time::{Duration, Instant, SystemTime, UNIX_EPOCH};
+use trial::Trial;
+
+struct Options {
+    seed: u64,
+    events: u64,
+    seconds: u64,
+}
+
+impl Options {
+    fn read() -> Result<Options, String> {
+        let clock = SystemTime::now().duration_since(UNIX_EPOCH).map_or(0, |since| since.as_nanos() as u64);
+        let mut options = Options { seed: clock, events: 1_000_000, seconds: 120 };
+        let mut words = std::env::args().skip(1);
+        while let Some(word) = words.next() {
+            let number = words.next().and_then(|text| text.parse().ok());
+            let number = number.ok_or_else(|| format!("{word} needs a number"))?;
+            match word.as_str() {
+                "--seed" => options.seed = number,
+                "--events" => options.events = number,
+                "--seconds" => options.seconds = number,
+                _ => return Err(format!("{word} is not --seed, --events or --seconds")),
+            }
+        }
+        Ok(options)
+    }
+}
+
+#[derive(Default)]
+struct Run {
+    events: u64,
+    coverage: Coverage,
+    damage: Damage,
+}
+
+impl Run {
+    /// Plays one trial; the error tells a difference.
+    fn trial(&mut self, random: &mut Random) -> Result<(), String> {
+        let mut trial = Trial::new(random);
+        let mut pair = trial.pair();
+        loop {
+            let before = pair.record();
+            let event = &trial.events[trial.events.len() - 1];
+            match pair.play(event) {
+                Ok(played) => self.coverage.note(&before, event, &played),
+                Err(_) => {
+                    let difference = trial.shrink();
+                    trial.print();
+                    return Err(difference);
+                }
+            }
+            self.events += 1;
+            let record = pair.record();
+            if trial.own() <= 8 * 512 && self.damage.wants(&record, self.events, 30_000) {
+                self.damage.every_byte(random, &record, pair.medium())?;
+                self.damage.invented(random, pair.medium())?;
+            }
+            if trial.events.len() > trial.length {
+                return Ok(());
+            }
+            trial.events.push(host::next(random, &record, trial.own()));
+        }
+    }
+
+    /// Plays trials until there were enough events.
+    fn all(&mut self, options: &Options) -> Result<(), String> {
+        let started = Instant::now();
+        let mut random = Random::new(options.seed);
+        while self.events < options.events {
+            if started.elapsed() > Duration::from_secs(options.seconds) {
+                return Err(format!("only {} events in {} seconds", thousands(self.events), options.seconds));
+            }
+            self.trial(&mut random).map_err(|difference| format!("DIFFERENCE: {difference}"))?;
+        }
+        self.coverage.print();
+        let damage = &self.damage;
+        println!("\ndamaged and invented records");
+        println!("  {:<34}{:>9}", "records with every byte changed", damage.records);
+        println!("  {:<34}{:>9}", "events on records not decoding", damage.undecoded);
+        println!("  {:<34}{:>9}", "events on records not fitting", damage.unfit);
+        println!("  {:<34}{:>9}", "events on records that fit", damage.fit);
+        println!("\ntime: {:.1} s", started.elapsed().as_secs_f64());
+        match self.coverage.missing() {
+            missing if missing.is_empty() => Ok(()),
+            missing => Err(format!("not met: {}", missing.join(", "))),
+        }
+    }
+}
+
+fn thousands(number: u64) -> String {
+    let digits = number.to_string();
+    let mut text = String::new();
+    for (at, digit) in digits.chars().enumerate() {
+        if at > 0 && (digits.len() - at).is_multiple_of(3) {
+            text.push(',');
+        }
+        text.push(digit);
+    }
+    text
+}
+
+fn main() -> ExitCode {
+    let options = match Options::read() {
+        Ok(options) => options,
+        Err(message) => {
+            eprintln!("differential: {message}");
+            return ExitCode::from(2);
+        }
+    };
+    println!("seed {}", options.seed);
+    let mut run = Run::default();
+    let result = run.all(&options);
+    let (events, damaged) = (thousands(run.events), thousands(run.damage.events));
+    match result {
+        Ok(()) => {
+            println!("and {damaged} events on damaged and invented records");
+            println!("differential: {events} events, no difference (seed {})", options.seed);
+            ExitCode::SUCCESS
+        }
+        Err(message) => {
+            println!("{message}");
+            println!("differential: FAILED after {events} events (seed {})", options.seed);
+            ExitCode::FAILURE
+        }
+    }
+}

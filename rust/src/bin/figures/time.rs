@@ -1,0 +1,112 @@
+//! Times: batches of prepared devices, timed as a whole, the two devices by turns.
+
+use crate::scene::{medium, ready, wrapper, Scene, LONG};
+use crate::side::{play, Idle, Side};
+use ordinary::device::{Device, BLOCK, PACKET};
+use ordinary::record::Record;
+use ordinary::scsi::code;
+use std::hint::black_box;
+use std::time::Instant;
+
+const BATCH: usize = 32;
+const ROUNDS: usize = 10_000;
+const LONG_ROUNDS: usize = 400;
+const PACKETS: usize = LONG as usize * BLOCK / PACKET;
+
+/// First quartile, median and third quartile.
+pub type Quartiles = [f64; 3];
+
+fn quartiles(mut samples: Vec<f64>) -> Quartiles {
+    samples.sort_by(f64::total_cmp);
+    [1, 2, 3].map(|quarter| samples[samples.len() * quarter / 4])
+}
+
+/// A batch of devices, and the one that each of them is to be before it is timed.
+struct Batch<S> {
+    prepared: S,
+    devices: Vec<S>,
+    samples: Vec<f64>,
+}
+
+impl<S: Side> Batch<S> {
+    fn new(scene: &Scene) -> Batch<S> {
+        let prepared = S::new(&scene.before);
+        Batch { devices: vec![prepared.clone(); BATCH], prepared, samples: vec![] }
+    }
+
+    /// Times the batch as a whole, and notes the nanoseconds an event.
+    fn round(&mut self, scene: &Scene, medium: &mut [u8]) {
+        self.devices.fill(self.prepared.clone());
+        let mut buffer = [0; PACKET];
+        let started = Instant::now();
+        let sum = play(&mut self.devices, &scene.input, medium, &mut buffer);
+        let time = started.elapsed().as_nanos() as f64;
+        let events = BATCH * scene.input.events();
+        assert!(sum as usize <= events, "{}: an event was refused", scene.name);
+        black_box(buffer);
+        self.samples.push(time / events as f64);
+    }
+}
+
+/// Nanoseconds an event, of the ordinary and of the proved device, less those of a device that does nothing.
+pub fn events(scene: &Scene) -> [Quartiles; 2] {
+    let mut medium = medium();
+    let mut idle = Batch::<Idle>::new(scene);
+    let mut ordinary = Batch::<Device>::new(scene);
+    let mut proved = Batch::<Record>::new(scene);
+    for round in 0..ROUNDS {
+        idle.round(scene, &mut medium);
+        if round % 2 == 0 {
+            ordinary.round(scene, &mut medium);
+            proved.round(scene, &mut medium);
+        } else {
+            proved.round(scene, &mut medium);
+            ordinary.round(scene, &mut medium);
+        }
+    }
+    let [_, nothing, _] = quartiles(idle.samples);
+    [ordinary.samples, proved.samples].map(|samples| quartiles(samples).map(|time| time - nothing))
+}
+
+fn long_read<S: Side>(device: &mut S, medium: &mut [u8]) -> u32 {
+    let mut buffer = [0; PACKET];
+    let mut sum = device.bulk_out(medium, &wrapper(code::READ, LONG));
+    for _ in 0..PACKETS + 1 {
+        sum += device.bulk_in(medium, black_box(&mut buffer));
+    }
+    sum
+}
+
+fn long_write<S: Side>(device: &mut S, medium: &mut [u8]) -> u32 {
+    let mut sum = device.bulk_out(medium, &wrapper(code::WRITE, LONG));
+    for _ in 0..PACKETS {
+        sum += device.bulk_out(medium, black_box(&[0xA5; PACKET]));
+    }
+    sum + device.bulk_in(medium, &mut [0; PACKET])
+}
+
+fn rate<S: Side>(device: &mut S, medium: &mut [u8], read: bool) -> f64 {
+    let started = Instant::now();
+    let sum = if read { long_read(device, medium) } else { long_write(device, medium) };
+    let time = started.elapsed().as_secs_f64();
+    let acks = if read { 1 } else { 1 + PACKETS };
+    assert_eq!(sum as usize, acks, "a long transfer was not carried through");
+    (PACKETS * PACKET) as f64 / time / 1e6
+}
+
+/// Megabytes a second over a whole read or write: wrapper, data, status.
+pub fn transfers(read: bool) -> [Quartiles; 2] {
+    let mut medium = medium();
+    let mut device = ready();
+    let mut record = device.to_record();
+    let mut samples = [vec![], vec![]];
+    for round in 0..LONG_ROUNDS {
+        for side in [round % 2, 1 - round % 2] {
+            samples[side].push(match side {
+                0 => rate(&mut device, &mut medium, read),
+                _ => rate(&mut record, &mut medium, read),
+            });
+        }
+    }
+    samples.map(quartiles)
+}

@@ -1,0 +1,15 @@
+//! The ordinary device: the collector's drive (docs: document 01) written as plain Rust firmware, and the C
+//! interface of the proved device, so that the two can be compared and measured.
+//!
+//! It was written from document 01 alone, without the proved device's code, so that a misreading by one of the two
+//! shows as a difference. "§" in the comments names a heading of document 01.
+
+mod bulk;
+pub mod capi;
+pub mod cases;
+mod control;
+pub mod device;
+pub mod record;
+pub mod scsi;
+pub mod usb;
+pub mod wrapper;

@@ -1,0 +1,178 @@
+//! SCSI: the commands of the one logical unit, their sense and their replies (§ Commands).
+
+use crate::device::BLOCK;
+
+/// Sense key, additional sense code and its qualifier.
+#[derive(Clone, Copy, Debug, PartialEq, Eq)]
+pub struct Sense {
+    pub key: u8,
+    pub asc: u8,
+    pub ascq: u8,
+}
+
+impl Sense {
+    pub const NONE: Sense = Sense::new(0x00, 0x00, 0x00);
+    pub const INVALID_OPERATION_CODE: Sense = Sense::new(0x05, 0x20, 0x00);
+    pub const OUT_OF_RANGE: Sense = Sense::new(0x05, 0x21, 0x00);
+    pub const INVALID_FIELD: Sense = Sense::new(0x05, 0x24, 0x00);
+    pub const DATA_PHASE_ERROR: Sense = Sense::new(0x0B, 0x4B, 0x00);
+
+    pub const fn new(key: u8, asc: u8, ascq: u8) -> Sense {
+        Sense { key, asc, ascq }
+    }
+}
+
+/// The operation codes of the table.
+pub mod code {
+    pub const TEST_UNIT_READY: u8 = 0x00;
+    pub const REQUEST_SENSE: u8 = 0x03;
+    pub const INQUIRY: u8 = 0x12;
+    pub const MODE_SENSE: u8 = 0x1A;
+    pub const PREVENT_ALLOW: u8 = 0x1E;
+    pub const READ_CAPACITY: u8 = 0x25;
+    pub const READ: u8 = 0x28;
+    pub const WRITE: u8 = 0x2A;
+    pub const VERIFY: u8 = 0x2F;
+}
+
+/// The bytes that a command sends from elsewhere than the medium.
+#[derive(Clone, Copy, Debug, PartialEq, Eq)]
+pub enum Reply {
+    /// The sense found when Request Sense came: the unit's own is cleared at once.
+    Sense(Sense),
+    Inquiry,
+    ModeSense,
+    /// Read Capacity of so many blocks.
+    Capacity(u32),
+}
+
+const INQUIRY: [u8; 36] = *b"\x00\x80\x05\x02\x1F\x00\x00\x00COLLECT METER EXPORT    0100";
+const MODE_SENSE: [u8; 4] = [0x03, 0x00, 0x00, 0x00];
+
+impl Reply {
+    /// The whole reply's size, before any allocation length cuts it.
+    pub fn size(&self) -> u32 {
+        match self {
+            Reply::Sense(_) => 18,
+            Reply::Inquiry => 36,
+            Reply::ModeSense => 4,
+            Reply::Capacity(_) => 8,
+        }
+    }
+
+    /// Writes the reply's bytes from `place` on, as many as `out` holds.
+    pub fn write(&self, place: usize, out: &mut [u8]) {
+        let part = place..place + out.len();
+        match *self {
+            Reply::Sense(sense) => out.copy_from_slice(&fixed_format(sense)[part]),
+            Reply::Inquiry => out.copy_from_slice(&INQUIRY[part]),
+            Reply::ModeSense => out.copy_from_slice(&MODE_SENSE[part]),
+            Reply::Capacity(blocks) => out.copy_from_slice(&capacity(blocks)[part]),
+        }
+    }
+}
+
+fn fixed_format(sense: Sense) -> [u8; 18] {
+    let mut reply = [0; 18];
+    reply[0] = 0x70;
+    reply[2] = sense.key;
+    reply[7] = 0x0A;
+    reply[12] = sense.asc;
+    reply[13] = sense.ascq;
+    reply
+}
+
+/// Read Capacity tells the last block, not the count. A unit has at least one block; a record that was never
+/// reached may tell of none, and then the last block is 0.
+fn capacity(blocks: u32) -> [u8; 8] {
+    let mut reply = [0; 8];
+    reply[..4].copy_from_slice(&blocks.saturating_sub(1).to_be_bytes());
+    reply[4..].copy_from_slice(&(BLOCK as u32).to_be_bytes());
+    reply
+}
+
+/// What a command that passed its checks moves; 0 bytes count as none.
+#[derive(Clone, Copy, Debug, PartialEq, Eq)]
+pub enum Data {
+    None,
+    Reply { reply: Reply, length: u32 },
+    Read { block: u32, count: u32 },
+    Write { block: u32, count: u32 },
+}
+
+impl Data {
+    fn reply(reply: Reply, allocation: u32) -> Data {
+        match reply.size().min(allocation) {
+            0 => Data::None,
+            length => Data::Reply { reply, length },
+        }
+    }
+}
+
+/// The least command block length of an operation code; an unknown one needs its code alone.
+pub fn block_length(operation: u8) -> u8 {
+    match operation {
+        code::TEST_UNIT_READY
+        | code::REQUEST_SENSE
+        | code::INQUIRY
+        | code::MODE_SENSE
+        | code::PREVENT_ALLOW => 6,
+        code::READ_CAPACITY | code::READ | code::WRITE | code::VERIFY => 10,
+        _ => 1,
+    }
+}
+
+/// Checks a command block: code, fields, range, in that order.
+pub fn decide(block: &[u8; 16], found: Sense, blocks: u32) -> Result<Data, Sense> {
+    match block[0] {
+        code::TEST_UNIT_READY => Ok(Data::None),
+        code::REQUEST_SENSE => {
+            field(block[1] & 0x01 == 0)?;
+            Ok(Data::reply(Reply::Sense(found), block[4].into()))
+        }
+        code::INQUIRY => {
+            field(block[1] & 0x01 == 0 && block[2] == 0)?;
+            Ok(Data::reply(Reply::Inquiry, block[4].into()))
+        }
+        code::MODE_SENSE => {
+            field(block[2] == 0x3F)?;
+            Ok(Data::reply(Reply::ModeSense, block[4].into()))
+        }
+        code::PREVENT_ALLOW => field(block[4] & 0x01 == 0).map(|()| Data::None),
+        code::READ_CAPACITY => Ok(Data::reply(Reply::Capacity(blocks), u32::MAX)),
+        code::READ => {
+            field(block[1] & 0xE0 == 0)?;
+            Ok(match range(block, blocks)? {
+                (_, 0) => Data::None,
+                (block, count) => Data::Read { block, count },
+            })
+        }
+        code::WRITE => {
+            field(block[1] & 0xE0 == 0)?;
+            Ok(match range(block, blocks)? {
+                (_, 0) => Data::None,
+                (block, count) => Data::Write { block, count },
+            })
+        }
+        code::VERIFY => {
+            field(block[1] & 0xE2 == 0)?;
+            range(block, blocks).map(|_| Data::None)
+        }
+        _ => Err(Sense::INVALID_OPERATION_CODE),
+    }
+}
+
+fn field(good: bool) -> Result<(), Sense> {
+    good.then_some(()).ok_or(Sense::INVALID_FIELD)
+}
+
+/// Block address and count. Their sum is taken in 64 bits, for it does not fit in 32; count 0 is checked too.
+fn range(block: &[u8; 16], blocks: u32) -> Result<(u32, u32), Sense> {
+    let address = u32::from_be_bytes([block[2], block[3], block[4], block[5]]);
+    let count = u16::from_be_bytes([block[7], block[8]]);
+    if u64::from(address) + u64::from(count) <= u64::from(blocks) {
+        Ok((address, count.into()))
+    } else {
+        Err(Sense::OUT_OF_RANGE)
+    }
+}

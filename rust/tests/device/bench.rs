@@ -1,0 +1,86 @@
+//! A host for the ordinary device's tests: it carries a command through to its status.
+
+use ordinary::device::{Answer, Device, Identity, BLOCK};
+
+pub struct Bench {
+    pub device: Device,
+    pub medium: Vec<u8>,
+}
+
+pub const TAG: u32 = 0x826A_6008;
+
+impl Bench {
+    /// A configured device with a medium of zeros.
+    pub fn new(blocks: usize) -> Bench {
+        let medium = vec![0; blocks * BLOCK];
+        let identity = Identity { number: 42, vendor: 0x1234, product: 0x5678, release: 0x0100 };
+        let mut bench = Bench { device: Device::make(identity, &medium).unwrap(), medium };
+        assert_eq!(bench.control([0x00, 0x09, 1, 0, 0, 0, 0, 0]), Ok(vec![]));
+        bench
+    }
+
+    /// A control request's data, empty for an ack; the error is any other answer.
+    pub fn control(&mut self, setup: [u8; 8]) -> Result<Vec<u8>, Answer> {
+        let mut buffer = [0xEE; 64];
+        match self.device.control(&setup, &mut buffer) {
+            Answer::Data(count) => Ok(buffer[..count as usize].to_vec()),
+            Answer::Ack => Ok(vec![]),
+            other => Err(other),
+        }
+    }
+
+    pub fn send(&mut self, packet: &[u8]) -> Answer {
+        self.device.bulk_out(&mut self.medium, packet)
+    }
+
+    pub fn ask(&mut self) -> Result<Vec<u8>, Answer> {
+        let mut buffer = [0xEE; 64];
+        match self.device.bulk_in(&self.medium, &mut buffer) {
+            Answer::Data(count) => Ok(buffer[..count as usize].to_vec()),
+            other => Err(other),
+        }
+    }
+
+    /// Sends a wrapper, which must be accepted.
+    pub fn command(&mut self, announced: u32, data_in: bool, block: &[u8]) {
+        assert_eq!(self.send(&wrapper(announced, data_in, block)), Answer::Ack);
+    }
+
+    pub fn clear_halt(&mut self, endpoint: u8) {
+        assert_eq!(self.control([0x02, 0x01, 0, 0, endpoint, 0, 0, 0]), Ok(vec![]));
+    }
+
+    /// Takes the status, which must carry the tag; gives back the residue and the status byte.
+    pub fn status(&mut self) -> (u32, u8) {
+        let csw = self.ask().unwrap();
+        assert_eq!((&csw[..4], &csw[4..8]), (&b"USBS"[..], &TAG.to_le_bytes()[..]));
+        (u32::from_le_bytes(csw[8..12].try_into().unwrap()), csw[12])
+    }
+
+    /// Key, ASC and ASCQ by Request Sense.
+    pub fn sense(&mut self) -> [u8; 3] {
+        self.command(18, true, &[0x03, 0, 0, 0, 18, 0]);
+        let reply = self.ask().unwrap();
+        assert_eq!(self.status(), (0, 0));
+        [reply[2], reply[12], reply[13]]
+    }
+}
+
+pub fn wrapper(announced: u32, data_in: bool, block: &[u8]) -> Vec<u8> {
+    let mut packet = b"USBC".to_vec();
+    packet.extend(TAG.to_le_bytes());
+    packet.extend(announced.to_le_bytes());
+    packet.extend([u8::from(data_in) << 7, 0, block.len() as u8]);
+    packet.extend(block);
+    packet.resize(31, 0);
+    packet
+}
+
+/// A ten-byte command block with a block address and a count.
+pub fn block10(code: u8, address: u32, count: u16) -> [u8; 10] {
+    let mut block = [0; 10];
+    block[0] = code;
+    block[2..6].copy_from_slice(&address.to_be_bytes());
+    block[7..9].copy_from_slice(&count.to_be_bytes());
+    block
+}
