@@ -1,0 +1,112 @@
+# The checks. Each is a command that `check` runs: it fails where the disk is not what document 01 makes it.
+
+# printed TEXT: the kernel printed it when the device was plugged in.
+printed() {
+    echo "the kernel did not print: $1"
+    grep -F "$1" /tmp/kernel | tail -n 1 | sed 's/^\[ *[0-9.]*\] //' | grep .
+}
+
+attribute() {
+    same "$1" "$(cat "$usb/$1")" "$2"
+}
+
+blocks() {
+    printed "[$disk] $1 512-byte logical blocks" && same blocks "$(cat "/sys/block/$disk/size")" "$1"
+}
+
+# writes MEDIUM: the run's random blocks, each where MEDIUM.list says. Through sg, for the disk's cache would write whole pages.
+writes() {
+    at=0
+    while read -r block count; do
+        sg_dd if="/depot/$1.data" of="/dev/$sg" bs=512 skip=$at seek="$block" count="$count" 2>/tmp/dd || {
+            tail -n 1 /tmp/dd
+            return 1
+        }
+        at=$((at + count))
+    done <"/depot/$1.list"
+    echo "$at blocks written"
+}
+
+# reads FILE: the whole disk, with nothing left in the cache, is what the run expects it to be.
+reads() {
+    blockdev --flushbufs "/dev/$disk"
+    dd if="/dev/$disk" of=/tmp/got bs=4k 2>/tmp/dd || {
+        tail -n 1 /tmp/dd
+        return 1
+    }
+    cmp /tmp/got "/depot/$1" && echo "$(($(stat -c %s /tmp/got) / 512)) blocks equal"
+}
+
+# raw OPTIONS.. -- BLOCK..: a command block as it stands; what came in is in /tmp/got.
+raw() {
+    rm -f /tmp/got
+    options=
+    while [ "$1" != -- ]; do
+        options="$options $1"
+        shift
+    done
+    shift
+    sg_raw -t 5 -o /tmp/got $options "/dev/$sg" "$@" >/tmp/raw 2>&1
+}
+
+# sense TEXT raw ..: the command fails, and the sense that Linux fetched says why.
+sense() {
+    text=$1
+    shift
+    "$@" && {
+        echo "the command passed"
+        return 1
+    }
+    echo "no \"$text\": $(grep . /tmp/raw | tail -n 1)"
+    grep -A 1 -i 'illegal request' /tmp/raw | grep -i "$text"
+}
+
+# received N FILE raw ..: the command passes, and brings exactly the N bytes that FILE begins with.
+received() {
+    n=$1
+    file=$2
+    shift 2
+    "$@" || {
+        grep . /tmp/raw | tail -n 1
+        return 1
+    }
+    head -c "$n" "$file" | cmp - /tmp/got && echo "$n bytes, equal"
+}
+
+# phase raw ..: the command ends in a transport error; the kernel resets the port and finds the device again.
+phase() {
+    dmesg -c >/dev/null
+    "$@" && {
+        echo "the command passed"
+        return 1
+    }
+    same "resets of the port" "$(dmesg | grep -c 'reset full-speed USB device')" 1
+}
+
+# ready: sg_turs alone is too kind, it also passes where the transport failed; the kernel's log says that.
+ready() {
+    dmesg -c >/dev/null
+    sg_turs "/dev/$sg" || return 1
+    if dmesg | grep -E 'FAILED Result|reset .*speed USB device'; then return 1; fi
+    echo "ready"
+}
+
+# block_0 FILE: the next command works: a read of the first block, equal to what FILE begins with.
+block_0() {
+    received 512 "$1" raw -r 512 -- 28 00 00 00 00 00 00 00 01 00
+}
+
+# verifies BLOCK COUNT
+verifies() {
+    sg_verify --lba="$1" --count="$2" "/dev/$sg" && echo "$2 blocks from $1"
+}
+
+# has TEXT COMMAND..: the command passes and prints it.
+has() {
+    text=$1
+    shift
+    "$@" >/tmp/tool 2>&1
+    code=$?
+    echo "status $code, no \"$text\": $(tail -n 1 /tmp/tool)"
+    [ $code = 0 ] && grep -F "$text" /tmp/tool | sed 's/^ *//' | grep .
+}

@@ -1,0 +1,104 @@
+# What is plugged in, and what is asked of it.
+
+mark "the guest is up: Linux $(uname -r)"
+
+# The bench's device (number 42, other numbers 0, 64 zero blocks): its first events become a recording.
+bench_device() {
+    plug bench 42 0000 0000 0000 || return
+    check serial-number printed "SerialNumber: 000000000042"
+    check serial-attribute attribute serial 000000000042
+    check vendor-string printed "Manufacturer: COLLECT"
+    check product-string printed "Product: METER EXPORT"
+    check driver printed "usb-storage 1-1:1.0: USB Mass Storage device detected"
+    check inquiry-strings printed "Direct-Access     COLLECT  METER EXPORT     0100 PQ: 0 ANSI: 5"
+    check write-protection printed "[$disk] Write Protect is off"
+    check blocks-64 blocks 64
+    mark "recognized: COLLECT METER EXPORT 000000000042, 64 blocks"
+
+    check sg_inq has "Product identification: METER EXPORT" sg_inq "/dev/$sg"
+    check sg_readcap has "Last LBA=63 (0x3f), Number of logical blocks=64" sg_readcap "/dev/$sg"
+    check sg_turs ready
+    check sg_requests has "Sense key: No Sense" sg_requests "/dev/$sg"
+    check sg_verify verifies 0 64
+    check read-past-the-end sense "Logical block address out of range" raw -r 512 -- 28 00 00 00 00 40 00 00 01 00
+    check next-command-after-failure block_0 /depot/bench.before
+    check verify-at-the-32-bits-end sense "Logical block address out of range" raw -- 2F 00 FF FF FF FF 00 00 01 00
+    check short-data-in received 512 /depot/bench.before raw -r 1024 -- 28 00 00 00 00 00 00 00 01 00
+    check short-data-out raw -s 1024 -i /depot/bench.data -- 2A 00 00 00 00 00 00 00 01 00
+    check short-data-out-stored block_0 /depot/bench.data
+    check phase-error-in phase raw -r 512 -- 28 00 00 00 00 00 00 00 02 00
+    check next-command-after-phase-error-in block_0 /depot/bench.data
+    check phase-error-out phase raw -s 512 -i /depot/bench.data -- 2A 00 00 00 00 05 00 00 02 00
+    check next-command-after-phase-error-out block_0 /depot/bench.data
+    mark "sg3-utils: commands, failures, short data, phase errors"
+
+    check bench-writes writes bench
+    check bench-reads-back reads bench.after
+    ask "save bench"
+    unplug
+}
+
+# What usb-storage never sends: the driver lets go, the probe talks to the device, and after a reset of the port the driver has it again.
+transport() {
+    plug transport 0 1209 0001 0100 || return
+    check serial-twelve-zeros attribute serial 000000000000
+    dmesg -c >/dev/null
+    echo "$(basename "$usb"):1.0" >/sys/bus/usb/drivers/usb-storage/unbind
+    file=$(printf /dev/bus/usb/%03d/%03d "$(cat "$usb/busnum")" "$(cat "$usb/devnum")")
+    /depot/probe "$file" /depot/transport.before /depot/transport.data >/tmp/probe
+    status=$?
+    while read -r line; do say "check $line"; done </tmp/probe
+    check probe-ended same status $status 0
+    check "driver-again" appears
+    check "transport-reads-back" reads transport.after
+    ask "save transport"
+    mark "asks that wait, broken wrappers, resets in a transfer"
+    unplug
+}
+
+# A file system on the largest medium, kept over an unplugging: a new device over the same medium.
+file_system() {
+    plug large 999999999999 1209 0001 0100 || return
+    check serial-all-nines printed "SerialNumber: 999999999999"
+    check identity printed "New USB device found, idVendor=1209, idProduct=0001, bcdDevice= 1.00"
+    check blocks-4096 blocks 4096
+    check large-reads reads large.before
+    check large-writes writes large
+    check large-reads-back reads large.after
+    ask "save large"
+    mark "4,096 blocks read, some written, all read back"
+    check mkfs.vfat mkfs.fat "/dev/$disk"
+    check mount mount -t vfat "/dev/$disk" /mnt
+    check copy cp /depot/meter.csv /mnt/meter.csv
+    check unmount umount /mnt
+    mark "formatted, mounted, a CSV copied, unmounted"
+    unplug
+    ask "save file-system"
+    plug same 999999999999 1209 0001 0100 || return
+    check fsck.vfat fsck.fat -n "/dev/$disk"
+    check mount-again mount -t vfat -o ro "/dev/$disk" /mnt
+    check compare cmp /mnt/meter.csv /depot/meter.csv
+    check unmount-again umount /mnt
+    mark "mounted again, compared: the CSV is the same"
+    unplug
+}
+
+# small NAME NUMBER BLOCKS: each block written and read.
+small() {
+    plug "$1" "$2" 1209 0001 0100 || return
+    check "serial-$1" attribute serial "$(printf %012d "$2")"
+    check "blocks-$3" blocks "$3"
+    check "$1-reads" reads "$1.before"
+    check "$1-writes" writes "$1"
+    check "$1-reads-back" reads "$1.after"
+    ask "save $1"
+    mark "$3 block(s) read, written, read back"
+    unplug
+}
+
+bench_device
+# QEMU's uhci does not take a transfer back that waits, so that it would answer a later ask.
+[ "$(cat /depot/controller)" = xhci ] && transport
+small one 1 1
+small seven 7000000 7
+file_system

@@ -1,0 +1,1 @@
+"""The depot: what depot/run, controls, recording and picture are made of."""

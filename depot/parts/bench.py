@@ -1,0 +1,48 @@
+"""A run's log as a bench recording (document 01, "The bench recording"): what Linux sent to the bench's device."""
+import os
+
+from . import log, script_form
+from .rules import Collector
+
+LONGEST, MOST_EVENTS, BLOCKS, NUMBERS = 16384, 1024, 64, (42, 0, 0, 0)
+
+
+def bench_events(path):
+    """The events of the first device that is the bench's: number 42, other numbers 0, 64 zero blocks."""
+    events, taking, zero = [], False, False
+    for entry in log.read(path):
+        if isinstance(entry, log.Event):
+            if taking:
+                events.append(entry)
+        elif entry.words[0] == "loaded":
+            with open(os.path.join(os.path.dirname(path), entry.words[1]), "rb") as f:
+                zero = f.read() == bytes(BLOCKS * 512)
+        elif entry.words[0] == "plugged":
+            taking = zero and log.identity(entry) == NUMBERS
+        elif entry.words[0] == "unplugged" and taking:
+            break
+    return events
+
+
+def cut(events):
+    """As many events as fit, whole commands only, with the answers of document 01."""
+    device, size, answers, whole = Collector(*NUMBERS, bytes(BLOCKS * 512)), 2, [], 0
+    for event in events[:MOST_EVENTS]:
+        size += 4 + len(event.body)
+        if size > LONGEST:
+            break
+        answers.append(device.event(event.kind, event.body))
+        if device.due == "wrapper":
+            whole = len(answers)
+    return events[:whole], answers[:whole]
+
+
+def make(folder):
+    """Writes linux.txt, linux.rec and linux.expected beside the log. The answers are those of parts/rules.py, not the log's."""
+    events, answers = cut(bench_events(os.path.join(folder, "events.log")))
+    text = script_form.text(events, answers)
+    recording, expected = script_form.compiled(text)
+    for name, body in (("linux.txt", text.encode()), ("linux.rec", recording), ("linux.expected", expected.encode())):
+        with open(os.path.join(folder, name), "wb") as f:
+            f.write(body)
+    return recording, expected

@@ -1,0 +1,31 @@
+"""What must have been on the bus, so that a check which passes has met what it is about: counted in the log."""
+from . import log
+from .decode import is_csw
+
+# The least that the guest's tests provoke, and what the probe adds, which runs under xhci.
+LEAST = {"devices": 5, "bus resets": 10, "failed": 8, "phase errors": 2, "stalls": 20}
+LEAST_WITH_PROBE = {"phase errors": 3, "naks": 3, "taken back": 2, "mass storage resets": 4}
+
+
+def count(entries):
+    seen = dict.fromkeys([*LEAST, *LEAST_WITH_PROBE], 0)
+    for entry in entries:
+        if isinstance(entry, log.Note):
+            seen["devices"] += entry.words[0] == "plugged"
+            seen["taken back"] += entry.words[0] == "cancelled"
+            continue
+        seen["bus resets"] += entry.kind == 1
+        seen["mass storage resets"] += entry.kind == 2 and entry.body[:2] == b"\x21\xFF"
+        seen["stalls"] += entry.word == "stall"
+        seen["naks"] += entry.word == "nak"
+        if entry.kind == 4 and is_csw(entry.data):
+            seen["failed"] += entry.data[12] == 1
+            seen["phase errors"] += entry.data[12] == 2
+    return seen
+
+
+def verdict(entries, probed):
+    seen = count(entries)
+    least = {**LEAST, **LEAST_WITH_PROBE} if probed else LEAST
+    lacking = ["%s: %d, not %d" % (name, seen[name], n) for name, n in least.items() if seen[name] < n]
+    return not lacking, "; ".join(lacking) or ", ".join("%d %s" % (seen[name], name) for name in least)

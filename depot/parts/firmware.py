@@ -1,0 +1,67 @@
+"""A second host, which is no Linux: the computer's BIOS enumerates the collector, boots from it, reads and writes through it."""
+import os
+import queue
+import random
+import subprocess
+
+from .machine import Machine, SOCKET
+from .media import BLOCK, changed
+from .peer import Peer, Refused
+from .places import DEPOT
+
+# As boot/boot.s has them. SeaBIOS does not boot from 64 blocks, of which it makes 0 cylinders.
+BLOCKS, READ, WRITTEN = 4096, range(1, 4), range(4093, 4096)
+SILENCE = 60
+
+
+def boot_block(folder):
+    """boot/boot.s, assembled."""
+    run = lambda *command: subprocess.run(command, cwd=folder, check=True)
+    run("as", "--32", "-o", "boot.o", os.path.join(DEPOT, "boot", "boot.s"))
+    run("ld", "-m", "elf_i386", "-Ttext", "0x7C00", "-e", "start", "--oformat", "binary", "-o", "boot.bin", "boot.o")
+    with open(os.path.join(folder, "boot.bin"), "rb") as f:
+        return f.read()
+
+
+def play(folder, seed, results, program, wrong):
+    before = boot_block(folder) + random.Random(seed).randbytes((BLOCKS - 1) * BLOCK)
+    with open(os.path.join(folder, "boot.medium"), "wb") as f:
+        f.write(before)
+    socket = os.path.join(folder, SOCKET)
+    if os.path.exists(socket):
+        os.unlink(socket)
+    machine, peer = Machine(folder, "xhci", [], boots=True), None
+    try:
+        peer = Peer(program, folder, results.start, wrong)
+        peer.order("load boot.medium")
+        peer.order("plug 42 0000 0000 0000")
+        results.mark("computer switched on, the collector plugged in")
+        hear(machine, before, results)
+        peer.order("save boot.saved")
+        with open(os.path.join(folder, "boot.saved"), "rb") as f:
+            saved = f.read()
+        after = bytearray(before)
+        after[WRITTEN.start * BLOCK:WRITTEN.stop * BLOCK] = before[READ.start * BLOCK:READ.stop * BLOCK]
+        results.check("written-outside", saved == after, "changed: " + " ".join(map(str, changed(before, saved))))
+    except queue.Empty:
+        results.check("computer-answers", False, "silent for %d seconds" % SILENCE)
+    except Refused as fault:
+        results.check("peer", False, str(fault))
+    finally:
+        machine.stop()
+        if peer:
+            complaint = peer.stop()
+            results.check("device-refused-nothing", not complaint, complaint or "no number of 10 and over came back")
+        if os.path.exists(socket):
+            os.unlink(socket)
+
+
+def hear(machine, before, results):
+    line = machine.line(SILENCE)
+    results.check("boots", line == "booted", "the boot block runs" if line == "booted" else repr(line))
+    for block in READ:
+        line = machine.line(SILENCE)
+        results.check("reads-block-%d" % block, line == before[block * BLOCK:(block + 1) * BLOCK].hex().upper(), "%d digits" % len(line or ""))
+    line = machine.line(SILENCE)
+    results.check("writes", line == "end", "no error")
+    results.mark("booted from the collector, blocks read and written")

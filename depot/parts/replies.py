@@ -1,0 +1,27 @@
+"""The bytes that document 01 gives: descriptors, and the replies of commands."""
+import struct
+
+CONFIGURATION = bytes.fromhex("09 02 20 00 01 01 00 C0 00  09 04 00 00 02 08 06 50 00  07 05 81 02 40 00 00  07 05 02 02 40 00 00")
+LANGUAGES = bytes.fromhex("04 03 09 04")
+INQUIRY = bytes.fromhex("00 80 05 02 1F 00 00 00") + b"COLLECT " + b"METER EXPORT    " + b"0100"
+
+
+def device_descriptor(vendor, product, release):
+    return bytes.fromhex("12 01 00 02 00 00 00 40") + struct.pack("<HHH", vendor, product, release) + bytes.fromhex("01 02 03 01")
+
+
+def utf16(text):
+    body = text.encode("utf-16-le")
+    return bytes([2 + len(body), 3]) + body
+
+
+def serial(number):
+    return "%012d" % number
+
+
+def fixed_sense(key, code, qualifier):
+    return bytes([0x70, 0, key, 0, 0, 0, 0, 0x0A, 0, 0, 0, 0, code, qualifier, 0, 0, 0, 0])
+
+
+def capacity(blocks):
+    return struct.pack(">II", blocks - 1, 512)

@@ -1,0 +1,198 @@
+"""Document 01 once more, in Python and from the paper alone: what a collector answers to each event, and what its medium then is.
+
+A run's log is held to it event by event, so that what the guest does not notice (a residue, a halt, an answer to a request
+that Linux ignores) is looked at too. Only what a bus can bring is here: the refusals 10 to 17 are not.
+"""
+import struct
+
+from .replies import CONFIGURATION, INQUIRY, LANGUAGES, capacity, device_descriptor, fixed_sense, serial, utf16
+
+BLOCK, PACKET = 512, 64
+NO_SENSE, INVALID_CODE, OUT_OF_RANGE, INVALID_FIELD, PHASE_SENSE = (0, 0, 0), (5, 0x20, 0), (5, 0x21, 0), (5, 0x24, 0), (0x0B, 0x4B, 0)
+PASSED, FAILED, PHASE_ERROR = 0, 1, 2
+BLOCK_LENGTHS = {0x00: 6, 0x03: 6, 0x12: 6, 0x1A: 6, 0x1E: 6, 0x25: 10, 0x28: 10, 0x2A: 10, 0x2F: 10}
+
+
+class Collector:
+    """`due` is what the bulk pipes wait for: "wrapper", "out", "in" or "status"."""
+
+    def __init__(self, number, vendor, product, release, medium):
+        self.medium, self.blocks = bytearray(medium), len(medium) // BLOCK
+        self.descriptors = {
+            (0x0100, 0): device_descriptor(vendor, product, release), (0x0200, 0): CONFIGURATION, (0x0300, 0): LANGUAGES,
+            (0x0301, 0x0409): utf16("COLLECT"), (0x0302, 0x0409): utf16("METER EXPORT"), (0x0303, 0x0409): utf16(serial(number)),
+        }
+        self.bus_reset()
+
+    def event(self, kind, body):
+        """An event by the kind that a recording gives it: the answer's word, and its bytes."""
+        match kind:
+            case 1:
+                return self.bus_reset()
+            case 2:
+                return self.control(body)
+            case 3:
+                return self.bulk_out(body)
+        return self.bulk_in()
+
+    # Control
+
+    def bus_reset(self):
+        self.address = self.configuration = 0
+        self.halted = {0x81: False, 0x02: False}
+        self.drop()
+        return "ack", b""
+
+    def drop(self):
+        self.due, self.locked, self.part, self.sense = "wrapper", False, b"", NO_SENSE
+
+    def control(self, setup):
+        kind, request, value, index, length = struct.unpack("<BBHHH", setup)
+        data = lambda *octets: ("data", bytes(octets))
+        ack, configured = ("ack", b""), self.configuration == 1
+        match (kind, request, value, index, length):
+            case (0x00, 0x05, address, 0, 0) if address <= 0x7F and not configured:
+                self.address = address
+                return ack
+            case (0x00, 0x09, 0 | 1, 0, 0):
+                self.configuration = value
+                self.halted = {0x81: False, 0x02: False}
+                self.drop()
+                return ack
+            case (0x80, 0x08, 0, 0, 1):
+                return data(self.configuration)
+            case (0x80, 0x00, 0, 0, 2):
+                return data(1, 0)
+            case (0x81, 0x00, 0, 0, 2) if configured:
+                return data(0, 0)
+            case (0x82, 0x00, 0, 0x00 | 0x80, 2):
+                return data(0, 0)
+            case (0x82, 0x00, 0, 0x81 | 0x02, 2) if configured:
+                return data(int(self.halted[index]), 0)
+            case (0x02, 0x01, 0, 0x00 | 0x80, 0):
+                return ack
+            case (0x02, 0x01 | 0x03, 0, 0x81 | 0x02, 0) if configured:
+                self.halted[index] = self.locked or request == 0x03
+                return ack
+            case (0x21, 0xFF, 0, 0, 0) if configured:
+                self.drop()
+                return ack
+            case (0xA1, 0xFE, 0, 0, 1) if configured:
+                return data(0)
+            case (0x80, 0x06, _, _, _) if (value, index) in self.descriptors:
+                return "data", self.descriptors[value, index][:length]
+        return "stall", b""
+
+    # Bulk
+
+    def bulk_out(self, packet):
+        if not self.configuration:
+            return "silent", b""
+        if self.halted[0x02]:
+            return "stall", b""
+        if self.due == "wrapper":
+            if not self.accepts(packet):
+                self.lock()
+                return "stall", b""
+            self.begin(packet)
+        elif self.due == "out":
+            self.take(packet)
+        else:
+            return "nak", b""
+        return "ack", b""
+
+    def bulk_in(self):
+        if not self.configuration:
+            return "silent", b""
+        if self.halted[0x81]:
+            return "stall", b""
+        if self.due == "in":
+            sent, self.reply = self.reply[:PACKET], self.reply[PACKET:]
+            self.residue -= len(sent)
+            if not self.reply:
+                self.finish(PASSED)
+            return "data", sent
+        if self.due == "status":
+            self.due = "wrapper"
+            if self.status == PHASE_ERROR:
+                self.lock()
+            return "data", b"USBS" + struct.pack("<IIB", self.tag, self.residue, self.status)
+        return "nak", b""
+
+    def lock(self):
+        self.locked, self.halted = True, {0x81: True, 0x02: True}
+
+    @staticmethod
+    def accepts(packet):
+        if len(packet) != 31 or packet[:4] != b"USBC":
+            return False
+        flags, unit, length = packet[12:15]
+        return not flags & 0x7F and unit == 0 and 1 <= length <= 16 and length >= BLOCK_LENGTHS.get(packet[15], 1)
+
+    def begin(self, packet):
+        """The thirteen meetings. `way` is the host's direction, "" where it announces nothing."""
+        self.tag, self.announced, flags = struct.unpack_from("<IIB", packet, 4)
+        self.way = "" if self.announced == 0 else "in" if flags & 0x80 else "out"
+        self.residue = self.announced
+        sense, way, length, source = self.decide(packet[15:])
+        if way and (way != self.way or length > self.announced):
+            self.finish(PHASE_ERROR)
+            return
+        self.sense = sense
+        if not way:
+            self.finish(PASSED if sense == NO_SENSE else FAILED)
+        elif way == "in":
+            self.due, self.reply = "in", source
+        else:
+            self.due, self.place, self.left, self.part = "out", source, length, b""
+
+    def finish(self, status):
+        """The data is done; where the host announced more, its pipe halts."""
+        self.due, self.status = "status", status
+        if self.residue:
+            self.halted[0x81 if self.way == "in" else 0x02] = True
+
+    def take(self, packet):
+        if len(packet) != PACKET:
+            self.part, self.sense = b"", PHASE_SENSE
+            self.halted[0x02] = True
+            self.due, self.status = "status", PHASE_ERROR
+            return
+        self.part += packet
+        if len(self.part) == BLOCK:
+            self.medium[self.place:self.place + BLOCK] = self.part
+            self.place, self.left, self.residue, self.part = self.place + BLOCK, self.left - BLOCK, self.residue - BLOCK, b""
+            if not self.left:
+                self.finish(PASSED)
+
+    # Commands
+
+    def decide(self, block):
+        """The sense that a command block leaves, the direction of its data ("" for none), their length, and their bytes or place."""
+        code, none = block[0], ("", 0, None)
+        address, count = struct.unpack_from(">IxH", block, 2)
+        given = lambda good, data: (NO_SENSE, *data) if good else (INVALID_FIELD, *none)
+        sent = lambda reply: ("in", len(reply), reply) if reply else none
+        match code:
+            case 0x00:
+                return given(True, none)
+            case 0x03:
+                return given(not block[1] & 1, sent(fixed_sense(*self.sense)[:block[4]]))
+            case 0x12:
+                return given(not block[1] & 1 and block[2] == 0, sent(INQUIRY[:block[4]]))
+            case 0x1A:
+                return given(block[2] == 0x3F, sent(b"\x03\0\0\0"[:block[4]]))
+            case 0x1E:
+                return given(not block[4] & 1, none)
+            case 0x25:
+                return given(True, sent(capacity(self.blocks)))
+            case 0x28 | 0x2A | 0x2F:
+                if block[1] & (0xE2 if code == 0x2F else 0xE0):
+                    return INVALID_FIELD, *none
+                if address + count > self.blocks:
+                    return OUT_OF_RANGE, *none
+                place, length = address * BLOCK, count * BLOCK
+                if code == 0x2F or not count:
+                    return NO_SENSE, *none
+                return NO_SENSE, *(sent(bytes(self.medium[place:place + length])) if code == 0x28 else ("out", length, place))
+        return INVALID_CODE, *none

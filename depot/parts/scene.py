@@ -1,0 +1,97 @@
+"""One run: the guest asks, the peer plugs, and the media are looked at from outside."""
+import os
+import queue
+
+from . import initramfs, packages
+from .machine import Machine, SOCKET, linux
+from .media import changed, media, meter_csv
+from .peer import Peer, Refused
+
+SILENCE = 60  # seconds in which a guest that lives says something
+END = "end"
+
+
+class Scene:
+    """`peer` and `probe` are the programs: beside QEMU and in the guest."""
+
+    def __init__(self, folder, seed, results, peer, probe):
+        self.folder, self.results, self.peer, self.probe = folder, results, peer, probe
+        self.media, self.csv = media(seed), meter_csv(seed)
+
+    def path(self, name):
+        return os.path.join(self.folder, name)
+
+    def prepare(self, controller):
+        files = [("meter.csv", self.csv), ("probe", initramfs.read(self.probe)), ("controller", controller.encode())]
+        for name, medium in self.media.items():
+            files += medium.files(name)
+            with open(self.path(name + ".medium"), "wb") as f:
+                f.write(medium.before)
+        initramfs.build(self.path("initramfs"), packages.kernel()[1], files)
+        if os.path.exists(self.path(SOCKET)):
+            os.unlink(self.path(SOCKET))
+
+    def play(self, controller, wrong, until_failure):
+        """Runs the guest to its end. What stops it early is a failed check too."""
+        self.prepare(controller)
+        machine = Machine(self.folder, controller, linux("initramfs"))
+        peer = None
+        try:
+            peer = Peer(self.peer, self.folder, self.results.start, wrong)
+            self.results.mark("QEMU started, %s" % controller)
+            with open(self.path("dialogue.log"), "w", encoding="utf-8") as log:
+                while not (until_failure and self.results.failed()):
+                    line = machine.line(SILENCE)
+                    if line in (None, END):
+                        self.results.check("guest-came-to-its-end", line == END, "poweroff")
+                        break
+                    log.write("%.2f %s\n" % (self.results.now(), line))
+                    self.hear(line, machine, peer)
+        except queue.Empty:
+            self.results.check("guest-came-to-its-end", False, "silent for %d seconds" % SILENCE)
+        except Refused as fault:
+            self.results.check("peer", False, str(fault))
+        finally:
+            machine.stop()
+            if peer:
+                complaint = peer.stop()
+                self.results.check("device-refused-nothing", not complaint, complaint or "no number of 10 and over came back")
+            if os.path.exists(self.path(SOCKET)):
+                os.unlink(self.path(SOCKET))
+
+    def hear(self, line, machine, peer):
+        word, _, rest = line.partition(" ")
+        if word == "mark":
+            self.results.mark(rest)
+        elif word == "check":
+            name, verdict, *detail = rest.split(" ", 2)
+            self.results.check(name, verdict == "ok", " ".join(detail))
+        elif word == "ask":
+            self.do(rest.split(), peer)
+            machine.answer("done")
+
+    def do(self, words, peer):
+        if words[0] == "plug":
+            if words[1] != "same":
+                peer.order("load %s.medium" % words[1])
+            peer.order("plug " + " ".join(words[2:]))
+        elif words[0] == "unplug":
+            peer.order("unplug")
+        elif words[0] == "save":
+            peer.order("save %s.saved" % words[1])
+            self.look_outside(words[1])
+
+    def look_outside(self, name):
+        """The peer's medium, which the guest cannot see, is compared with what the run's own numbers make it."""
+        with open(self.path(name + ".saved"), "rb") as f:
+            saved = f.read()
+        if name == "file-system":
+            size = len(self.csv).to_bytes(4, "little")
+            entry = saved.find(b"METER   CSV")
+            good = entry > 0 and saved[entry + 28:entry + 32] == size and self.csv in saved
+            self.results.check("csv-outside", good, "directory entry and %d bytes of the CSV on the medium" % len(self.csv))
+            return
+        medium = self.media[name]
+        blocks = changed(medium.before, saved)
+        detail = "changed: " + (" ".join(map(str, blocks[:8])) + (" and %d more" % (len(blocks) - 8) if len(blocks) > 8 else ""))
+        self.results.check(name + "-outside", saved == medium.after, detail)

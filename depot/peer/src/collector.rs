@@ -1,0 +1,151 @@
+//! The collector's C interface: one device over one medium, and the four events of its bus.
+
+/// The packets' size: document 01 has no other.
+pub const PACKET: usize = 64;
+
+/// `collector_record`. Its fields are the device's own; here only its size and alignment count.
+#[repr(C, align(8))]
+struct Record([u8; 568]);
+
+/// `collector_answer`, which comes back by value.
+#[repr(C)]
+struct RawAnswer {
+    number: u32,
+    count: usize,
+}
+
+const _: () =
+    assert!(size_of::<Record>() == 568 && align_of::<Record>() == 8 && size_of::<RawAnswer>() == 16);
+
+extern "C" {
+    fn collector_make(
+        record: *mut Record,
+        number: u64,
+        vendor: u16,
+        product: u16,
+        release: u16,
+        medium: *const u8,
+        medium_len: usize,
+    ) -> RawAnswer;
+    fn collector_bus_reset(record: *mut Record) -> RawAnswer;
+    fn collector_control(
+        record: *mut Record,
+        setup: *const u8,
+        setup_len: usize,
+        buffer: *mut u8,
+        buffer_len: usize,
+    ) -> RawAnswer;
+    fn collector_bulk_out(
+        record: *mut Record,
+        medium: *mut u8,
+        medium_len: usize,
+        packet: *const u8,
+        packet_len: usize,
+    ) -> RawAnswer;
+    fn collector_bulk_in(
+        record: *mut Record,
+        medium: *const u8,
+        medium_len: usize,
+        buffer: *mut u8,
+        buffer_len: usize,
+    ) -> RawAnswer;
+}
+
+/// The numbers given at making.
+#[derive(Clone, Copy, Default)]
+pub struct Identity {
+    pub number: u64,
+    pub vendor: u16,
+    pub product: u16,
+    pub release: u16,
+}
+
+/// One thing that the bus brings.
+pub enum Event<'a> {
+    Reset,
+    Setup([u8; 8]),
+    Out(&'a [u8]),
+    In,
+}
+
+/// Document 01's "Numbers that come back", as far as a bus can see them.
+#[derive(Clone, PartialEq, Eq)]
+pub enum Answer {
+    Data(Vec<u8>),
+    Ack,
+    Nak,
+    Stall,
+    Silent,
+    /// A number of 10 and over, which a peer that keeps to the interface never sees, or a count that the interface does not allow.
+    Refused {
+        number: u32,
+        count: usize,
+    },
+}
+
+pub struct Collector {
+    record: Box<Record>,
+    medium: Vec<u8>,
+}
+
+impl Collector {
+    /// A newly made device over a medium, or the number of the refusal and the medium back.
+    pub fn make(identity: Identity, medium: Vec<u8>) -> Result<Self, (u32, Vec<u8>)> {
+        let mut record = Box::new(Record([0; 568]));
+        let Identity { number, vendor, product, release } = identity;
+        // SAFETY: the record is a record's size and alignment, the medium valid for its length, and neither outlives the call.
+        let raw = unsafe {
+            collector_make(&mut *record, number, vendor, product, release, medium.as_ptr(), medium.len())
+        };
+        if (raw.number, raw.count) == (1, 0) {
+            Ok(Collector { record, medium })
+        } else {
+            Err((raw.number, medium))
+        }
+    }
+
+    pub fn medium(&self) -> &[u8] {
+        &self.medium
+    }
+
+    pub fn into_medium(self) -> Vec<u8> {
+        self.medium
+    }
+
+    pub fn event(&mut self, event: &Event) -> Answer {
+        let mut buffer = [0u8; PACKET];
+        let record = &mut *self.record as *mut Record;
+        let medium = &mut self.medium;
+        // SAFETY: each pointer is valid for the length beside it, record and buffers are distinct, and calls come one after another.
+        let raw = unsafe {
+            match event {
+                Event::Reset => collector_bus_reset(record),
+                Event::Setup(bytes) => {
+                    collector_control(record, bytes.as_ptr(), bytes.len(), buffer.as_mut_ptr(), buffer.len())
+                }
+                Event::Out(packet) => collector_bulk_out(
+                    record,
+                    medium.as_mut_ptr(),
+                    medium.len(),
+                    packet.as_ptr(),
+                    packet.len(),
+                ),
+                Event::In => collector_bulk_in(
+                    record,
+                    medium.as_ptr(),
+                    medium.len(),
+                    buffer.as_mut_ptr(),
+                    buffer.len(),
+                ),
+            }
+        };
+        match (raw.number, raw.count) {
+            (0, count @ 0..=PACKET) => Answer::Data(buffer[..count].to_vec()),
+            (1, 0) => Answer::Ack,
+            (2, 0) => Answer::Nak,
+            (3, 0) => Answer::Stall,
+            (4, 0) => Answer::Silent,
+            (number, count) => Answer::Refused { number, count },
+        }
+    }
+}

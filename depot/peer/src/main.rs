@@ -1,0 +1,37 @@
+//! The usbredir peer of the depot.
+//!
+//!     peer serve SOCKET LOG START     connects to QEMU's socket and obeys the orders on standard input, one a line:
+//!         load FILE                               a medium, its length setting the number of blocks
+//!         plug NUMBER VENDOR PRODUCT RELEASE      a newly made device over the medium (decimal; then hex)
+//!         unplug                                  the device is gone, the medium stays
+//!         save FILE                               the medium as it stands
+//!     peer play                       plays the recording on standard input, and prints its answers
+//!
+//! An order is answered with one line on standard output: `done`, or `failed` and why.
+
+mod bus;
+mod collector;
+mod log;
+mod play;
+mod redir;
+mod serve;
+
+#[cfg(feature = "wrong")]
+use wrong as _;
+
+fn main() {
+    let words: Vec<String> = std::env::args().skip(1).collect();
+    let words: Vec<&str> = words.iter().map(String::as_str).collect();
+    let outcome = match words[..] {
+        ["serve", socket, path, start] => serve::serve(socket, path, start),
+        ["play"] => play::play(),
+        _ => {
+            eprintln!("peer serve SOCKET LOG START | peer play");
+            std::process::exit(2);
+        }
+    };
+    if let Err(fault) = outcome {
+        eprintln!("peer: {fault}");
+        std::process::exit(1);
+    }
+}

@@ -1,0 +1,213 @@
+//! The faults: each a slip that this trade makes, or one that a first firmware has. A fault changes what the ordinary device
+//! did, after it did it; `before` is the record that the event found.
+
+use crate::capi::CAnswer;
+use crate::record::{flag, stage, Record};
+use std::sync::atomic::{AtomicBool, Ordering};
+use std::sync::{Mutex, OnceLock};
+
+const BLOCK: usize = 512;
+const DATA: u32 = 0;
+const ACK: u32 = 1;
+const NAK: u32 = 2;
+const STALL: u32 = 3;
+
+#[derive(Clone, Copy, PartialEq, Eq)]
+pub enum Fault {
+    None,
+    /// The serial number's digits without their zeros in front.
+    Digits,
+    /// Read Capacity gives the count and not the last block.
+    Capacity,
+    /// Mode Sense says that the medium is write protected.
+    Protected,
+    /// The status wrapper's tag is not the command's.
+    Tag,
+    /// Request Sense has forgotten why the command failed.
+    Sense,
+    /// Address plus count summed in 32 bits, in Verify.
+    Sum,
+    /// No halt after data that is shorter than announced: the status wrapper runs into the data.
+    NoHalt,
+    /// A bus reset does not end the lock of a phase error.
+    LockStays,
+    /// Writes are acknowledged and forgotten.
+    NeverStores,
+    /// A block is stored in the next one's place.
+    NextBlock,
+    /// Writes are read back, but never reach the medium: gone with the plug.
+    Volatile,
+    /// Residue 0 after a short read.
+    Residue,
+    /// Clear Feature frees a locked device.
+    ClearFrees,
+    /// A part block is stored at a reset.
+    PartStored,
+    /// A stall where nothing is due yet, in place of nak.
+    Impatient,
+    /// The vendor's and the product's number in the wrong byte order.
+    ByteOrder,
+}
+
+const NAMES: [(&str, Fault); 17] = [
+    ("none", Fault::None),
+    ("digits", Fault::Digits),
+    ("capacity", Fault::Capacity),
+    ("protected", Fault::Protected),
+    ("tag", Fault::Tag),
+    ("sense", Fault::Sense),
+    ("sum", Fault::Sum),
+    ("no-halt", Fault::NoHalt),
+    ("lock-stays", Fault::LockStays),
+    ("never-stores", Fault::NeverStores),
+    ("next-block", Fault::NextBlock),
+    ("volatile", Fault::Volatile),
+    ("residue", Fault::Residue),
+    ("clear-frees", Fault::ClearFrees),
+    ("part-stored", Fault::PartStored),
+    ("impatient", Fault::Impatient),
+    ("byte-order", Fault::ByteOrder),
+];
+
+/// What a record cannot hold: that a reset came while the device was locked, a block that a reset found half full, a medium of its own.
+static LOCK_STAYS: AtomicBool = AtomicBool::new(false);
+static PART: Mutex<Option<(usize, [u8; BLOCK])>> = Mutex::new(None);
+static OWN: Mutex<Option<Vec<u8>>> = Mutex::new(None);
+
+/// The fault that the environment names.
+fn chosen() -> Fault {
+    static CHOSEN: OnceLock<Fault> = OnceLock::new();
+    *CHOSEN.get_or_init(|| {
+        let name = std::env::var("DEPOT_WRONG").unwrap_or_else(|_| "none".into());
+        let found = NAMES.iter().find(|(known, _)| *known == name);
+        found.unwrap_or_else(|| panic!("DEPOT_WRONG={name}: no such fault")).1
+    })
+}
+
+pub fn make(medium: &[u8]) {
+    if chosen() == Fault::Volatile {
+        *OWN.lock().unwrap() = Some(medium.to_vec());
+    }
+}
+
+/// Runs a packet's event on the medium that the fault lets the device have.
+pub fn store(medium: &mut [u8], run: impl FnOnce(&mut [u8]) -> CAnswer) -> CAnswer {
+    match chosen() {
+        Fault::NeverStores => run(&mut medium.to_vec()),
+        Fault::Volatile => run(OWN.lock().unwrap().as_mut().expect("made")),
+        Fault::NextBlock => {
+            let old = medium.to_vec();
+            let answer = run(medium);
+            let stored =
+                (0..old.len()).step_by(BLOCK).find(|&at| old[at..at + BLOCK] != medium[at..at + BLOCK]);
+            if let Some(at) = stored {
+                let next = (at + BLOCK) % old.len();
+                medium.copy_within(at..at + BLOCK, next);
+                medium[at..at + BLOCK].copy_from_slice(&old[at..at + BLOCK]);
+            }
+            answer
+        }
+        Fault::PartStored => {
+            if let Some((at, part)) = PART.lock().unwrap().take() {
+                medium[at..at + BLOCK].copy_from_slice(&part);
+            }
+            run(medium)
+        }
+        _ => run(medium),
+    }
+}
+
+/// Runs an ask on the medium that the device has.
+pub fn send(medium: &[u8], run: impl FnOnce(&[u8]) -> CAnswer) -> CAnswer {
+    match &*OWN.lock().unwrap() {
+        Some(own) => run(own),
+        None => run(medium),
+    }
+}
+
+/// A command was dropped that had gathered a part of a block.
+fn dropped(before: &Record, record: &Record) {
+    if before.stage == stage::DATA_OUT && before.value > 0 && record.stage == stage::READY {
+        *PART.lock().unwrap() = Some((before.place as usize * BLOCK, before.part));
+    }
+}
+
+pub fn bus_reset(before: &Record, record: &Record) {
+    match chosen() {
+        Fault::LockStays if before.locked() => LOCK_STAYS.store(true, Ordering::Relaxed),
+        Fault::PartStored => dropped(before, record),
+        _ => {}
+    }
+}
+
+pub fn control(
+    before: &Record,
+    record: &mut Record,
+    setup: &[u8],
+    buffer: &mut [u8],
+    answer: CAnswer,
+) -> CAnswer {
+    match chosen() {
+        Fault::LockStays if record.configured() && LOCK_STAYS.load(Ordering::Relaxed) => {
+            record.flags |= flag::LOCKED | flag::HALT_IN | flag::HALT_OUT;
+        }
+        Fault::ClearFrees if answer.number == ACK && before.locked() && setup[..2] == [0x02, 0x01] => {
+            let halt = if setup[4] == 0x81 { flag::HALT_IN } else { flag::HALT_OUT };
+            record.flags &= !(flag::LOCKED | halt);
+        }
+        Fault::PartStored => dropped(before, record),
+        Fault::ByteOrder if answer.count == 18 && setup[..4] == [0x80, 0x06, 0x00, 0x01] => {
+            buffer.swap(8, 9);
+            buffer.swap(10, 11);
+        }
+        Fault::Digits if answer.count == 26 && setup[..6] == [0x80, 0x06, 0x03, 0x03, 0x09, 0x04] => {
+            return CAnswer { number: DATA, count: without_zeros(buffer) };
+        }
+        _ => {}
+    }
+    answer
+}
+
+/// Drops the zeros in front of a string descriptor's digits, and shortens it.
+fn without_zeros(buffer: &mut [u8]) -> usize {
+    let zeros = (0..11).take_while(|digit| buffer[2 + 2 * digit] == b'0').count();
+    buffer.copy_within(2 + 2 * zeros..26, 2);
+    buffer[0] = 26 - 2 * zeros as u8;
+    buffer[0].into()
+}
+
+pub fn bulk_out(record: &mut Record, packet: &[u8]) {
+    match chosen() {
+        Fault::Sense if record.stage == stage::REQUEST_SENSE => record.value = 0,
+        Fault::Sum if record.stage == stage::FAILED && packet.len() == 31 && packet[15] == 0x2F => {
+            let address = u32::from_be_bytes(packet[17..21].try_into().unwrap());
+            let count = u16::from_be_bytes(packet[22..24].try_into().unwrap());
+            if address.wrapping_add(count.into()) <= record.blocks {
+                record.stage = stage::PASSED;
+                (record.sense_key, record.sense_asc, record.sense_ascq) = (0, 0, 0);
+            }
+        }
+        _ => {}
+    }
+}
+
+pub fn bulk_in(before: &Record, record: &mut Record, buffer: &mut [u8], answer: CAnswer) -> CAnswer {
+    if answer.number == NAK && chosen() == Fault::Impatient {
+        return CAnswer { number: STALL, count: 0 };
+    }
+    if answer.number != DATA {
+        return answer;
+    }
+    let status = before.stage >= stage::PASSED;
+    match chosen() {
+        Fault::Capacity if before.stage == stage::READ_CAPACITY => {
+            buffer[..4].copy_from_slice(&before.value.to_be_bytes())
+        }
+        Fault::Protected if before.stage == stage::MODE_SENSE => buffer[2] = 0x80,
+        Fault::NoHalt if !status => record.flags &= !flag::HALT_IN,
+        Fault::Tag if status => buffer[4] ^= 1,
+        Fault::Residue if before.stage == stage::PASSED => buffer[8..12].fill(0),
+        _ => {}
+    }
+    answer
+}
