@@ -21,11 +21,9 @@ use Rattle.machine.specs.declared.record.Stage.the-variants.{DataOut, DataIn, S
 use Rattle.machine.specs.declared.record.State.{State}
 use Rattle.machine.specs.declared.record.Device.{Device}
 use Rattle.machine.specs.Record.{unit, task, link, state, device, moved}
-use Rattle.machine.specs.Fits.{mostBlocks, sizeFits, addressFits, idleFits, lockFits, taskFits, fits}
-use Rattle.machine.specs.Bulk.{haltAtEnd, nextOut, gathered, storedBlock, onData, outStage, packetOut, handedOut, afterStatus, onStatus, inStage, packetIn}
-use Rattle.machine.specs.Machine.{Out, check, step, told, out, beside, unlent, bulkIn, bulkOut}
-use Rattle.control.specs.Transfers.{outFits, inFits}
-use Rattle.control.specs.Gates.{chain}
+use Rattle.machine.specs.Fits.{mostBlocks, sizeFits, addressFits, idleFits, lockFits, taskFits, fits, outFits, inFits}
+use Rattle.machine.specs.Bulk.{haltAtEnd, nextOut, gathered, storedBlock, onData, outStage, packetOut, handedOut, afterStatus, onStatus, inStage, packetIn, gatheredState, handedState, nextIn, storedState}
+use Rattle.machine.specs.Machine.{Out, check, step, told, out, beside, unlent, bulkIn, bulkOut, inOrder}
 use Rattle.control.proofs.Lengths.{csw-long}
 use Rattle.collector.proofs.Admission.{open-in, open-out}
 use Rattle.collector.proofs.Running.{asked}
@@ -62,12 +60,12 @@ module _ (g : Given) (f : flats.Flat) (m : List ℕ) where
     reads-state = simp (w .stage, w .free .flags)
 
     reads-fits : fits (identityFrom g) (at (DataIn (f .place) (f .left)) (f .residue)) ≡ true
-    unfolding taskFits inFits
+    unfolding taskFits inFits outFits
     reads-fits = fitting (DataIn (f .place) (f .left)) (w .free) (w .running)
 
     reads-step : (p : List ℕ) → step (dev (DataIn (f .place) (f .left)) (f .residue) p) m (bulkIn b)
         ≡ out (Data 64) (dev (DataIn (f .place + 64) (f .left - 64)) (f .residue - 64) p) m (placed b 0 (take 64 (drop (f .place) m)))
-    unfolding chain check packetIn inStage if_then_else_ handedOut moved haltAtEnd inFits
+    unfolding inOrder check packetIn inStage if_then_else_ handedOut moved haltAtEnd inFits handedState nextIn
     reads-step p =
         let d = dev (DataIn (f .place) (f .left)) (f .residue) p in
         let more : 64 < f .left = w .more in
@@ -100,12 +98,12 @@ module _ (g : Given) (f : flats.Flat) (m : List ℕ) where
     passes-state = simp (w .stage, w .free .flags)
 
     passes-fits : fits (identityFrom g) (at (StatusDue Passed) (f .residue)) ≡ true
-    unfolding taskFits
+    unfolding taskFits outFits inFits
     passes-fits = fitting (StatusDue Passed) (w .free) (le-leb _ _ (w .running))
 
     passes-step : (p : List ℕ) → step (dev (StatusDue Passed) (f .residue) p) m (bulkIn b)
         ≡ out (Data 13) (device (identityFrom g) (afterStatus Passed (at (StatusDue Passed) (f .residue))) p) m (placed b 0 (cswBytes csw))
-    unfolding chain check packetIn inStage if_then_else_ onStatus
+    unfolding inOrder check packetIn inStage if_then_else_ onStatus
     passes-step p =
         let d = dev (StatusDue Passed) (f .residue) p in
         open-in d m b (simp (passes-fits, eq-eqb _ _ (w .free .whole), le-leb _ _ (w .room)))
@@ -130,12 +128,12 @@ module _ (g : Given) (f : flats.Flat) (m : List ℕ) where
     gathers-state = simp (w .stage, w .free .flags)
 
     gathers-fits : fits (identityFrom g) (at (DataOut (f .place) (f .left) (f .value)) (f .residue)) ≡ true
-    unfolding taskFits outFits
+    unfolding taskFits outFits inFits
     gathers-fits = fitting (DataOut (f .place) (f .left) (f .value)) (w .free) (w .running)
 
     opened : step (dev (DataOut (f .place) (f .left) (f .value)) (f .residue) p) m (bulkOut q)
         ≡ unlent (onData (dev (DataOut (f .place) (f .left) (f .value)) (f .residue) p) m (f .place) (f .left) (f .value) q)
-    unfolding chain check packetOut outStage if_then_else_
+    unfolding inOrder check packetOut outStage if_then_else_
     opened =
         let d = dev (DataOut (f .place) (f .left) (f .value)) (f .residue) p in
         let more : 1 < f .left = w .more in
@@ -153,14 +151,14 @@ module _ (g : Given) (f : flats.Flat) (m : List ℕ) where
 
     pub quick-part : f .value + 64 < 512 → onRecord (rec g f p) m (bulkOut q)
         ≡ left (answer 1 0) (rec g (movedOn f 1 (f .residue) (f .place) (f .left) (f .value + 64)) (placed p (f .value) q)) m []
-    unfolding onData if_then_else_ gathered moved flatOf flatWith numbersOf flagsOf worth movedOn
+    unfolding onData if_then_else_ gathered moved flatOf flatWith numbersOf flagsOf worth movedOn gatheredState
     quick-part h =
         turned (out Ack (dev (DataOut (f .place) (f .left) (f .value + 64)) (f .residue) (placed p (f .value) q)) m [])
         (simp (eq-eqb _ _ (w .full), lt-ltb _ _ h))
 
     pub quick-block : (f .value + 64 < 512 → ⊥) → onRecord (rec g f p) m (bulkOut q)
         ≡ left (answer 1 0) (rec g (movedOn f 1 (f .residue - 512) (f .place + 1) (f .left - 1) 0) (zeros 512)) (placed m (512 * f .place) (placed p (f .value) q)) []
-    unfolding onData if_then_else_ storedBlock moved nextOut haltAtEnd flatOf flatWith numbersOf flagsOf worth movedOn
+    unfolding onData if_then_else_ storedBlock moved nextOut haltAtEnd flatOf flatWith numbersOf flagsOf worth movedOn storedState
     quick-block h =
         let more : 1 < f .left = w .more in
         turned (out Ack (dev (DataOut (f .place + 1) (f .left - 1) 0) (f .residue - 512) (zeros 512)) (placed m (512 * f .place) (placed p (f .value) q)) [])

@@ -3,8 +3,7 @@
 use Prim.Native.Nat.{ℕ, _*_, _≤_, _<_}
 use mathlib.Core.Path.{_≡_}
 use mathlib.Core.Bool.{true}
-use Rattle.machine.specs.Fits.{sizeFits, numberFits}
-use Rattle.control.specs.Transfers.{outFits, inFits}
+use Rattle.machine.specs.Fits.{sizeFits, numberFits, outFits, inFits}
 use Rattle.capi.specs.declared.record.Given.{Given}
 use Rattle.capi.specs.declared.record.Flat as flats
 

@@ -15,7 +15,7 @@ use Rattle.machine.specs.declared.record.Stage.{Stage}
 use Rattle.machine.specs.declared.record.Stage.the-variants.{DataOut, DataIn, ReplyIn}
 use Rattle.machine.specs.declared.record.State.{State}
 use Rattle.machine.specs.declared.record.Device.{Device}
-use Rattle.machine.specs.Fits.{taskFits}
+use Rattle.machine.specs.Fits.{taskFits, outFits, inFits}
 use Rattle.machine.specs.Outcome.{reacts}
 use Rattle.machine.specs.Bulk.{handedOut, onAsk}
 use Rattle.collector.specs.Parts.{Sound, Gathering}
@@ -24,7 +24,7 @@ at-stage : (s : State) (m : List ℕ) (g : Stage) → Sound s m → s .link .tas
 at-stage s m g w e = sym (ap (λ (h : Stage). taskFits (s .unit .blocks) h (s .link .task .announced) (s .link .task .residue)) e) ∙ w .running
 
 pub gathering : (s : State) (m : List ℕ) (block left held : ℕ) → Sound s m → s .link .task .stage ≡ DataOut block left held → (left ≡ 0 → ⊥) → Gathering s block left held m
-unfolding taskFits
+unfolding taskFits outFits inFits
 gathering s m block left held w e n =
     let f = both _ _ (at-stage s m (DataOut block left held) w e) in
     let g = both _ _ (f .1) in
@@ -44,7 +44,7 @@ pub record Sending (place left size residue : ℕ) : Type 0 where
   pub due : left ≤ residue
 
 pub sending : (s : State) (m : List ℕ) (place left : ℕ) → Sound s m → s .link .task .stage ≡ DataIn place left → Sending place left (length m) (s .link .task .residue)
-unfolding taskFits
+unfolding taskFits outFits inFits
 sending s m place left w e =
     let f = both _ _ (at-stage s m (DataIn place left) w e) in
     let l = w .whole in
@@ -52,7 +52,7 @@ sending s m place left w e =
     record { within = omega arith; due = leb-true _ _ (both _ _ (f .1) .0) }
 
 pub replying : (s : State) (m : List ℕ) (r : replies.Reply) (place left : ℕ) → Sound s m → s .link .task .stage ≡ ReplyIn r place left → Sending place left (length (replyData r)) (s .link .task .residue)
-unfolding taskFits
+unfolding taskFits outFits inFits
 replying s m r place left w e =
     let f = both _ _ (at-stage s m (ReplyIn r place left) w e) in
     record { within = leb-true _ _ (f .0); due = leb-true _ _ (both _ _ (f .1) .0) }

@@ -2,8 +2,7 @@
 ghost use mathlib.Core.Path.{_≡_};
 ghost use lib.ListN.{length};
 ghost use Rattle.scsi.specs.Reply.{replyData};
-ghost use Rattle.machine.specs.Fits.{sizeFits, numberFits, isReady, idleFits, lockFits, taskFits, fits};
-ghost use Rattle.control.specs.Transfers.{outFits, inFits};
+ghost use Rattle.machine.specs.Fits.{sizeFits, numberFits, isReady, idleFits, lockFits, taskFits, fits, outFits, inFits};
 use machine::record::Link;
 use machine::record::MOST_BLOCKS;
 use machine::record::Stage;

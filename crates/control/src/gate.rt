@@ -1,6 +1,7 @@
 // The checks before an event, in document 01's order, and what an event's inner function answers.
 ghost use mathlib.Core.Path.{_≡_};
-ghost use Rattle.control.specs.Gates.{verdictOf, chain};
+ghost use Rattle.control.specs.Gates.{verdictOf};
+ghost use Rattle.machine.specs.Machine.{inOrder};
 use machine::answer::Answer;
 use machine::answer::Refusal;
 use machine::record::State;
@@ -24,7 +25,7 @@ pub fn admit(
     setup: bool,
     configured: bool,
 ) -> Gate
-    ensures { λ r. ⌜ verdictOf r ≡ chain fits medium buffer packet setup configured ⌝ }
+    ensures { λ r. ⌜ verdictOf r ≡ inOrder fits medium buffer packet setup configured ⌝ }
 {
     if !fits {
         return Gate::Shut(Answer::Refused {

@@ -29,7 +29,7 @@ use Rattle.machine.specs.Control.{haltIn, haltOut}
 use Rattle.machine.specs.Wrapper.{accepted, wrapperOf}
 use Rattle.machine.specs.Begin.{hostOf, hasOf, senseOf, ownStatus, firstStage, haltsIn, haltsOut, sensed, staged, begunBy, begun}
 use Rattle.machine.specs.Bulk.{onWrapper, outStage, packetOut}
-use Rattle.machine.specs.Machine.{Event, bulkOut, where-lent, check, checks, judgedOut, onBulkOut, Out, out, unlent, step, run}
+use Rattle.machine.specs.Machine.{Event, bulkOut, where-lent, check, checks, judgedOut, onBulkOut, Out, out, unlent, step, run, inOrder}
 use Rattle.machine.specs.Tally.{Making}
 use Rattle.machine.specs.Claim.{answers, lived, recovery, goodTest, WrapperDue}
 use Rattle.machine.specs.Beside.{Reached, IsDue, DueExactly, CanRecover}
@@ -94,7 +94,7 @@ can-recover k ok es c order x y z hx hy hz =
 -- a bulk-out packet whose checks pass
 out-passed : (d : Device) (m p : List ℕ) → fits (d .identity) (d .state) ≡ true → length m ≡ 512 * d .state .unit .blocks → length p ≤ 64 → d .state .configured ≡ true
     → step d m (bulkOut p) ≡ unlent (packetOut d m p)
-unfolding step onBulkOut checks check where-lent judgedOut if_then_else_
+unfolding step onBulkOut checks check where-lent judgedOut if_then_else_ inOrder
 out-passed d m p f n h c = simp (f, eq-eqb (length m) (512 * d .state .unit .blocks) n, le-leb (length p) 64 h, c)
 
 -- Test Unit Ready, announcing 0

@@ -12,16 +12,16 @@ use Rattle.bot.specs.Csw.{cswBytes}
 use Rattle.usb.specs.Descriptor.{deviceDescriptor, configurationDescriptor, utf16, stringDescriptor}
 use Rattle.usb.specs.Request.{isNoData, setAddress, setConfiguration, bare, endpoints, endpointOf, targetOf, served, descriptors, getDescriptor, requests, decided, requestOf}
 use Rattle.machine.specs.Record.{fresh, noDevice, withHalts, droppedState, dropped, withAddress, moved}
-use Rattle.machine.specs.Fits.{sizeFits, numberFits, addressFits, isReady, idleFits, lockFits, taskFits, fits}
+use Rattle.machine.specs.Fits.{sizeFits, numberFits, addressFits, isReady, idleFits, lockFits, taskFits, fits, outFits, inFits}
 use Rattle.machine.specs.Wrapper.{accepted, wrapperOf}
 use Rattle.machine.specs.Making.{mediumServed, make}
 use Rattle.machine.specs.Control.{reset, needsConfigured, flag, endpointStatus, haltIn, haltOut, clearHalt, setHalt, perform}
 use Rattle.machine.specs.Begin.{hostOf, hasOf, senseOf, ownStatus, replyOf, dataStage, firstStage, haltsIn, haltsOut, sensed, staged, begunBy, begun}
-use Rattle.machine.specs.Bulk.{lockedState, onWrapper, cutShort, gathered, nextOut, haltAtEnd, storedBlock, onData, outStage, packetOut, handedOut, onAsk, afterStatus, onStatus, inStage, packetIn}
-use Rattle.machine.specs.Machine.{where-lent, check, checks, judged, judgedOut, onReset, onControl, onBulkOut, onBulkIn, step, run}
+use Rattle.machine.specs.Bulk.{lockedState, onWrapper, cutShort, gathered, nextOut, haltAtEnd, storedBlock, onData, outStage, packetOut, handedOut, onAsk, afterStatus, onStatus, inStage, packetIn, cutState, gatheredState, handedState, nextIn, storedState}
+use Rattle.machine.specs.Machine.{where-lent, check, checks, judged, judgedOut, onReset, onControl, onBulkOut, onBulkIn, step, run, inOrder}
 use Rattle.machine.specs.Tally.{writeOf, beginning, following, taken, heard, heeded, isAck, noted, observed, stored}
 use Rattle.machine.specs.Claim.{answers, lived, history, recovery, settingUp, goodTest, WrapperDue, isDrop, ends, isRefusal, isShut, shutAt, watch, watched}
 
 unfoldable pub computes : Unit {0}
-unfolding if_then_else_ _and_ look bytesAt zeros startsWith roomFor placed low value decimal bits clear isNoSense cut within commands commandOf blockLength planBy planOf senseData padded inquiryData modeData capacityData sameWay counted meeting caseOf inRange readable headerOf cswBytes deviceDescriptor configurationDescriptor utf16 stringDescriptor isNoData setAddress setConfiguration bare endpoints endpointOf targetOf served descriptors getDescriptor requests decided requestOf fresh noDevice withHalts droppedState dropped withAddress moved sizeFits numberFits addressFits isReady idleFits lockFits taskFits fits accepted wrapperOf mediumServed make reset needsConfigured flag endpointStatus haltIn haltOut clearHalt setHalt perform hostOf hasOf senseOf ownStatus replyOf dataStage firstStage haltsIn haltsOut sensed staged begunBy begun lockedState onWrapper cutShort gathered nextOut haltAtEnd storedBlock onData outStage packetOut handedOut onAsk afterStatus onStatus inStage packetIn where-lent check checks judged judgedOut onReset onControl onBulkOut onBulkIn step run writeOf beginning following taken heard heeded isAck noted observed stored answers lived history recovery settingUp goodTest WrapperDue isDrop ends isRefusal isShut shutAt watch watched
+unfolding if_then_else_ _and_ look bytesAt zeros startsWith roomFor placed low value decimal bits clear isNoSense cut within commands commandOf blockLength planBy planOf senseData padded inquiryData modeData capacityData sameWay counted meeting caseOf inRange readable headerOf cswBytes deviceDescriptor configurationDescriptor utf16 stringDescriptor isNoData setAddress setConfiguration bare endpoints endpointOf targetOf served descriptors getDescriptor requests decided requestOf fresh noDevice withHalts droppedState dropped withAddress moved sizeFits numberFits addressFits isReady idleFits lockFits taskFits fits accepted wrapperOf mediumServed make reset needsConfigured flag endpointStatus haltIn haltOut clearHalt setHalt perform hostOf hasOf senseOf ownStatus replyOf dataStage firstStage haltsIn haltsOut sensed staged begunBy begun lockedState onWrapper cutShort gathered nextOut haltAtEnd storedBlock onData outStage packetOut handedOut onAsk afterStatus onStatus inStage packetIn where-lent check checks judged judgedOut onReset onControl onBulkOut onBulkIn step run writeOf beginning following taken heard heeded isAck noted observed stored answers lived history recovery settingUp goodTest WrapperDue isDrop ends isRefusal isShut shutAt watch watched outFits inFits cutState gatheredState storedState handedState nextIn inOrder
 computes = tt

@@ -19,7 +19,7 @@ use Rattle.machine.specs.Answer.{numberOf}
 use Rattle.machine.specs.Record.{moved}
 use Rattle.machine.specs.Outcome.{Effect, effects}
 use Rattle.machine.specs.Wrapper.{accepted}
-use Rattle.machine.specs.Bulk.{cutShort, onData, outStage, packetOut}
+use Rattle.machine.specs.Bulk.{cutShort, onData, outStage, packetOut, cutState}
 use Rattle.machine.specs.Machine.{bulkOut, Verdict, judgedOut, onBulkOut, outInputs, Out, unlent, step}
 use Rattle.machine.specs.Claim.{goodTest, WrapperDue}
 use Rattle.machine.specs.Beside.{IsDue}
@@ -67,7 +67,7 @@ unfolding onData
 cut d m w block left held n = if-false _ _ _ (ne-eqb (length w) 64 (λ e. omega arith))
 
 cut-halts : (d : Device) → cutShort d .state .link .haltout ≡ true
-unfolding cutShort moved
+unfolding cutShort moved cutState
 cut-halts d = refl
 
 stage-of : (d : Device) (m w : List ℕ) → length w ≡ 31 → (g : Stage) → outStage g d m w .answer ≡ Ack

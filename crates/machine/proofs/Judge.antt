@@ -14,7 +14,7 @@ use Rattle.machine.specs.declared.answer.Refusal.the-variants as refusal
 use Rattle.machine.specs.Answer.{numberOf, refusalNumber}
 use Rattle.machine.specs.Fits.{blockSize, fits}
 use Rattle.machine.specs.Bulk.{packetSize}
-use Rattle.machine.specs.Machine.{Inputs, where-lent, Verdict, passes, refuses, check, checks}
+use Rattle.machine.specs.Machine.{Inputs, where-lent, Verdict, passes, refuses, check, checks, inOrder}
 use Rattle.machine.specs.Tally.{isAck}
 use Rattle.machine.specs.Claim.{isRefusal}
 use Rattle.machine.specs.Beside.{isQuiet}
@@ -50,7 +50,7 @@ unfolding isAck isQuiet
 silent-as d i e = record { quiet = refl; still = refl; high = refl; number = λ k c. absurd (true≢false (sym c ∙ sym (if-true (i .bulk) (d .state .configured) true k) ∙ e)) }
 
 pub judge : (P : Verdict → Type 0) (d : Device) (i : Inputs) → ((a : Answer) → Barred d i a → P (refuses a)) → (Passed d i → P passes) → P (checks d i)
-unfolding checks isRefusal _and_
+unfolding checks isRefusal _and_ inOrder
 judge P d i f g =
     by-check P _ _ _ (λ e. f _ (refuses-as d i refusal.Record refl refl))
     (λ fit. by-check P _ _ _ (λ e. f _ (refuses-as d i refusal.Medium refl refl))

@@ -45,12 +45,12 @@ use Rattle.machine.specs.declared.wrapper.Wrapper.{Wrapper}
 use Rattle.machine.specs.declared.wrapper.Wrapper.the-variants.{Broken, Good}
 use Rattle.machine.specs.declared.answer.Answer.the-variants.{Ack, Stall}
 use Rattle.machine.specs.Record.{task, noTask, withHalts, droppedState, dropped, withAddress, moved, withState}
-use Rattle.machine.specs.Fits.{sizeFits, numberFits, addressFits, isReady, idleFits, lockFits, taskFits, fits}
+use Rattle.machine.specs.Fits.{sizeFits, numberFits, addressFits, isReady, idleFits, lockFits, taskFits, fits, outFits, inFits}
 use Rattle.machine.specs.Outcome.{Reaction, reacts, Effect}
 use Rattle.machine.specs.Control.{reset, needsConfigured, endpointStatus, haltIn, haltOut, clearHalt, setHalt, perform}
 use Rattle.machine.specs.Wrapper.{accepted, wrapperOf}
 use Rattle.machine.specs.Begin.{hostOf, hasOf, replyOf, dataStage, firstStage, staged, begunBy, begun}
-use Rattle.machine.specs.Bulk.{lockedState, onWrapper, cutShort, gathered, nextOut, storedBlock, onData, outStage, packetOut, handedOut, onAsk, afterStatus, onStatus, inStage, packetIn}
+use Rattle.machine.specs.Bulk.{lockedState, onWrapper, cutShort, gathered, nextOut, storedBlock, onData, outStage, packetOut, handedOut, onAsk, afterStatus, onStatus, inStage, packetIn, cutState, gatheredState, handedState, nextIn, storedState}
 use Rattle.machine.specs.Machine.{Event, busReset, control, bulkOut, bulkIn, Inputs, Verdict, judged, judgedOut, onReset, onControl, onBulkOut, onBulkIn, resetInputs, controlInputs, outInputs, inInputs, step}
 use Rattle.machine.proofs.Judge.{Passed, judge}
 
@@ -92,7 +92,7 @@ same-le : (n : ℕ) → leb n n ≡ true
 same-le n = le-leb n n (omega arith)
 
 data-fits : (p : Plan) (u : LogicalUnit) (a : ℕ) → PlanFits (u .blocks) p → amount (hasOf p) ≤ a → taskFits (u .blocks) (dataStage p u) a a ≡ true
-unfolding taskFits dataStage hasOf
+unfolding taskFits dataStage hasOf outFits inFits
 data-fits (Failed s) u a f h = same-le a
 data-fits Nothing u a f h = same-le a
 data-fits (Reply k n) u a f h =
@@ -105,7 +105,7 @@ data-fits (Write block count) u a f h =
 
 case-fits : (p : Plan) (u : LogicalUnit) (a : ℕ) (c : Case) → PlanFits (u .blocks) p → Moves a (amount (hasOf p)) c
     → taskFits (u .blocks) (staged (c .ending) (c .moves) p u) a a ≡ true
-unfolding taskFits staged firstStage
+unfolding taskFits staged firstStage outFits inFits
 case-fits p u a c f no-data = same-le a
 case-fits p u a c f no-match = same-le a
 case-fits p u a c f (all-in h) = data-fits p u a f h
@@ -138,7 +138,7 @@ module _ (i : Identity) (s : State) (f : Fit i s) where
       }
 
   drops : (a : ℕ) (c hi ho : Bool) → addressFits a ≡ true → (c ≡ false → (not hi and not ho) ≡ true) → Fit i (droppedState s a c hi ho)
-  unfolding droppedState idleFits lockFits taskFits isReady isNoSense if_then_else_ _and_
+  unfolding droppedState idleFits lockFits taskFits isReady isNoSense if_then_else_ _and_ outFits inFits
   drops a c hi ho l h =
       record {
         size = f .size;
@@ -162,7 +162,7 @@ planned n p h x e = by-if (λ (w : Wrapper). w ≡ Good h x → PlanFits n x) (a
     broken e = let z : _≡_ {A = ℕ} 0 1 = cc in omega arith
 
 status-task : (n : ℕ) (x : Status) (a r : ℕ) → r ≤ a → taskFits n (StatusDue x) a r ≡ true
-unfolding taskFits
+unfolding taskFits outFits inFits
 status-task n x a r h = le-leb r a h
 
 -- one more packet of 64 bytes
@@ -293,7 +293,7 @@ module _ (d : Device) (m : List ℕ) (f : Fine d) where
       -- the bounds of a write, as facts
       out-bounds : (block left held : ℕ) → s .link .task .stage ≡ DataOut block left held
           → (block + left ≤ s .unit .blocks) × (held % 64 ≡ 0) × (held < 512) × (512 * left ≤ s .link .task .residue) × (s .link .task .residue ≤ s .link .task .announced)
-      unfolding taskFits
+      unfolding taskFits outFits inFits
       out-bounds block left held e =
           let a = both _ _ (in-stage (DataOut block left held) e) in
           let b = both _ _ (a .1) in
@@ -302,7 +302,7 @@ module _ (d : Device) (m : List ℕ) (f : Fine d) where
           (leb-true _ _ (a .0), eqb-true _ _ (b .0), ltb-true _ _ (x .0), leb-true _ _ (y .0), leb-true _ _ (y .1))
 
       out-task : (block left held a r : ℕ) → block + left ≤ s .unit .blocks → held % 64 ≡ 0 → held < 512 → 512 * left ≤ r → r ≤ a → taskFits (s .unit .blocks) (DataOut block left held) a r ≡ true
-      unfolding taskFits
+      unfolding taskFits outFits inFits
       out-task block left held a r x y z u v =
           and-true _ _ (le-leb _ _ x) (and-true _ _ (eq-eqb _ _ y) (and-true _ _ (lt-ltb _ _ z) (and-true _ _ (le-leb _ _ u) (le-leb _ _ v))))
 
@@ -314,7 +314,7 @@ module _ (d : Device) (m : List ℕ) (f : Fine d) where
           (λ e. let l = leb-false left 1 e in out-task (block + 1) (left - 1) 0 a (r - 512) (omega arith) refl (omega arith) (omega arith) (omega arith))
 
       datas : (block left held : ℕ) → s .link .task .stage ≡ DataOut block left held → (left ≡ 0 → ⊥) → Left (onData d m block left held p)
-      unfolding onData cutShort gathered storedBlock
+      unfolding onData cutShort gathered storedBlock cutState gatheredState storedState
       datas block left held e n =
           let b = out-bounds block left held e in
           by-if Left (eqb (length p) 64) _ _
@@ -345,7 +345,7 @@ module _ (d : Device) (m : List ℕ) (f : Fine d) where
         → s .link .task .residue ≤ s .link .task .announced → left ≤ s .link .task .residue
         → (64 < left → taskFits (s .unit .blocks) more (s .link .task .announced) (s .link .task .residue - 64) ≡ true)
         → Handed (onAsk d x place left more b)
-    unfolding onAsk handedOut
+    unfolding onAsk handedOut handedState nextIn
     asks x place left more u v g =
         by-if Handed (eqb left 0) _ _ (λ _. f)
         (λ _. moves i s f c open′ _ _ _ _
@@ -357,13 +357,13 @@ module _ (d : Device) (m : List ℕ) (f : Fine d) where
         subst (λ (k : ℕ). taskFits (s .unit .blocks) more (s .link .task .announced) (s .link .task .residue - k) ≡ true) (sym z) (g l))))
 
     after : (x : Status) → Fine (withState d (afterStatus x s))
-    unfolding afterStatus lockedState taskFits _and_
+    unfolding afterStatus lockedState taskFits _and_ outFits inFits
     after status.Passed = moves i s f c open′ _ _ _ noTask refl
     after status.Failed = moves i s f c open′ _ _ _ noTask refl
     after status.PhaseError = halts i _ (moves i s f c open′ _ _ _ noTask refl) (stays-configured s _ _ _ _ ∙ c) true true true (λ _. refl)
 
     ins : (g : Stage) → s .link .task .stage ≡ g → Handed (inStage g d m b)
-    unfolding inStage taskFits onStatus
+    unfolding inStage taskFits onStatus outFits inFits
     ins Ready e = f
     ins (DataOut block left held) e = f
     ins (DataIn place left) e =

@@ -21,10 +21,10 @@ use Rattle.machine.specs.declared.record.Device.{Device}
 use Rattle.machine.specs.declared.answer.Answer.{Answer}
 use Rattle.machine.specs.declared.answer.Answer.the-variants.{Ack, Stall}
 use Rattle.machine.specs.Record.{fresh, withHalts, droppedState, dropped, withAddress, withState}
-use Rattle.machine.specs.Fits.{sizeFits, numberFits, addressFits, isReady, idleFits, lockFits, taskFits, fits}
+use Rattle.machine.specs.Fits.{sizeFits, numberFits, addressFits, isReady, idleFits, lockFits, taskFits, fits, outFits, inFits}
 use Rattle.machine.specs.Outcome.{Reaction, reacts}
 use Rattle.machine.specs.Control.{needsConfigured, haltIn, haltOut, clearHalt, perform}
-use Rattle.machine.specs.Machine.{Event, control, where-lent, Verdict, check, checks, judged, onControl, controlInputs, Out, out, beside, step, run}
+use Rattle.machine.specs.Machine.{Event, control, where-lent, Verdict, check, checks, judged, onControl, controlInputs, Out, out, beside, step, run, inOrder}
 use Rattle.machine.specs.Tally.{isAck}
 use Rattle.machine.specs.Claim.{answers, setup, recovery, settingUp}
 use Rattle.machine.proofs.Judge.{judge}
@@ -141,17 +141,17 @@ recovery-fits d m false x y z h = acked d m _ x (first d m _ _ Ack _ h .0) .1
 -- a control request whose checks pass is performed
 pub control-passed : (d : Device) (m q b : List ℕ) → fits (d .identity) (d .state) ≡ true → 64 ≤ length b → length q ≡ 8
     → step d m (control q b) ≡ beside m (perform (requestOf q) d b)
-unfolding step onControl checks check where-lent judged if_then_else_
+unfolding step onControl checks check where-lent judged if_then_else_ inOrder
 control-passed d m q b f h k = simp (f, le-leb 64 (length b) h, eq-eqb (length q) 8 k)
 
 pub fits-fresh : (i : Identity) (n : ℕ) → sizeFits n ≡ true → numberFits (i .number) ≡ true → fits i (fresh i n .state) ≡ true
-unfolding fits fresh addressFits idleFits isReady isNoSense lockFits taskFits if_then_else_ _and_
+unfolding fits fresh addressFits idleFits isReady isNoSense lockFits taskFits if_then_else_ _and_ outFits inFits
 fits-fresh i n small numbered = simp (small, numbered)
 
 module _ (i : Identity) (n a : ℕ) (x y : List ℕ) (m : List ℕ)
     (small : sizeFits n ≡ true) (numbered : numberFits (i .number) ≡ true) (low : a ≤ 0x7F) (hx : 64 ≤ length x) (hy : 64 ≤ length y) where
   fits-named : fits i (withAddress (fresh i n .state) a) ≡ true
-  unfolding fits fresh withAddress addressFits idleFits isReady isNoSense lockFits taskFits if_then_else_ _and_
+  unfolding fits fresh withAddress addressFits idleFits isReady isNoSense lockFits taskFits if_then_else_ _and_ outFits inFits
   fits-named = simp (small, numbered, le-leb a 0x7F low)
 
   named : step (fresh i n) m (control (setup 0x00 0x05 a 0) x) ≡ out Ack (withState (fresh i n) (withAddress (fresh i n .state) a)) m x

@@ -33,7 +33,7 @@ use Rattle.machine.specs.Outcome.{Reaction, reacts, Effect}
 use Rattle.machine.specs.Control.{reset, needsConfigured, endpointStatus, haltIn, haltOut, clearHalt, setHalt, perform}
 use Rattle.machine.specs.Wrapper.{wrapperOf}
 use Rattle.machine.specs.Begin.{begunBy, begun}
-use Rattle.machine.specs.Bulk.{lockedState, onWrapper, cutShort, gathered, nextOut, storedBlock, onData, outStage, packetOut, handedOut, onAsk, afterStatus, onStatus, inStage, packetIn}
+use Rattle.machine.specs.Bulk.{lockedState, onWrapper, cutShort, gathered, nextOut, storedBlock, onData, outStage, packetOut, handedOut, onAsk, afterStatus, onStatus, inStage, packetIn, cutState, gatheredState, handedState, nextIn, storedState}
 use Rattle.machine.specs.Machine.{Event, busReset, control, bulkOut, bulkIn, Verdict, judged, judgedOut, onReset, onControl, onBulkOut, onBulkIn, step, resetInputs, controlInputs, outInputs, inInputs}
 use Rattle.machine.specs.Tally.{Making, Block, Tally, idle, writing, Log, log, writeOf, beginning, following, turned, taken, heard, heeded, isAck, noted, stored}
 use Rattle.machine.proofs.Judge.{judge}
@@ -255,7 +255,7 @@ module _ (k : Making) (l : Log) (d : Device) (m : List ℕ) (s : Sim k l d m) wh
 
     -- the next stage of a transfer to the host
     asks : (g : Stage) → d .state .link .task .stage ≡ g → Still g → (x : List ℕ) (place left : ℕ) (more : Stage) → Still more → Asked (onAsk d x place left more b)
-    unfolding onAsk handedOut
+    unfolding onAsk handedOut handedState nextIn
     asks g e f x place left more h =
         let r = at-rest g e f in
         by-if Asked (eqb left 0) _ _ (λ _. same Nak no-nak)
@@ -359,7 +359,7 @@ module _ (k : Making) (l : Log) (d : Device) (m : List ℕ) (s : Sim k l d m) wh
           (subst (λ (x : ℕ). Together (following block x) (nextOut block left) (zeros 512)) (sym (g .due)) (follows block left))
 
       data′ : Taken (onData d m block left held p)
-      unfolding onData cutShort gathered storedBlock stored
+      unfolding onData cutShort gathered storedBlock stored cutState gatheredState storedState
       data′ =
           by-if Taken (eqb (length p) 64) _ _
           (λ h. by-if Taken (ltb (held + 64) 512) _ _

@@ -43,18 +43,19 @@ abbrev pub onward : State → Stage → ℕ → Task
 onward s g r = task g (s .link .task .tag) (s .link .task .announced) r
 
 -- "Data-out of any length but 64: its bytes and the part block dropped, bulk-out halted, status 2, sense 0B/4B/00."
+unfoldable pub cutState : State → State
+cutState s = moved s dataPhase (s .link .haltin) true (onward s (StatusDue PhaseError) (s .link .task .residue))
+
 unfoldable pub cutShort : Device → Device
-cutShort d =
-    let s = d .state in
-    device (d .identity) (moved s dataPhase (s .link .haltin) true (onward s (StatusDue PhaseError) (s .link .task .residue))) (zeros blockSize)
+cutShort d = device (d .identity) (cutState (d .state)) (zeros blockSize)
 
 -- A packet that does not fill its block.
+unfoldable pub gatheredState : State → ℕ → ℕ → ℕ → State
+gatheredState s block left held =
+    moved s (s .unit .sense) (s .link .haltin) (s .link .haltout) (onward s (DataOut block left (held + packetSize)) (s .link .task .residue))
+
 unfoldable pub gathered : Device → ℕ → ℕ → ℕ → List ℕ → Device
-gathered d block left held p =
-    let s = d .state in
-    device (d .identity)
-    (moved s (s .unit .sense) (s .link .haltin) (s .link .haltout) (onward s (DataOut block left (held + packetSize)) (s .link .task .residue)))
-    (placed (d .part) held p)
+gathered d block left held p = device (d .identity) (gatheredState (d .state) block left held) (placed (d .part) held p)
 
 -- After a whole block: the next one is due, or the status; the table's halt comes if some of the announced length is left.
 unfoldable pub nextOut : ℕ → ℕ → Stage
@@ -63,13 +64,13 @@ nextOut block left = if leb left 1 then StatusDue Passed else DataOut (block + 1
 unfoldable pub haltAtEnd : Bool → ℕ → Bool → Bool
 haltAtEnd last residue before = if last then (if ltb 0 residue then true else before) else before
 
-unfoldable pub storedBlock : Device → ℕ → ℕ → Device
-storedBlock d block left =
-    let s = d .state in
+unfoldable pub storedState : State → ℕ → ℕ → State
+storedState s block left =
     let r = s .link .task .residue - blockSize in
-    device (d .identity)
-    (moved s (s .unit .sense) (s .link .haltin) (haltAtEnd (leb left 1) r (s .link .haltout)) (onward s (nextOut block left) r))
-    (zeros blockSize)
+    moved s (s .unit .sense) (s .link .haltin) (haltAtEnd (leb left 1) r (s .link .haltout)) (onward s (nextOut block left) r)
+
+unfoldable pub storedBlock : Device → ℕ → ℕ → Device
+storedBlock d block left = device (d .identity) (storedState (d .state) block left) (zeros blockSize)
 
 unfoldable pub onData : Device → List ℕ → ℕ → ℕ → ℕ → List ℕ → Effect
 onData d m block left held p =
@@ -93,13 +94,17 @@ packetOut d m p = if d .state .link .haltout then effects Stall d m else outStag
 
 -- ---- bulk-in
 
--- The device once n bytes are handed out, of which these were the last or not; "Data-in packets hold min(64, what is left)".
-unfoldable pub handedOut : Device → ℕ → ℕ → Stage → Device
-handedOut d n left more =
-    let s = d .state in
+-- The state once n bytes are handed out, of which these were the last or not; "Data-in packets hold min(64, what is left)".
+unfoldable pub nextIn : ℕ → Stage → Stage
+nextIn left more = if leb left packetSize then StatusDue Passed else more
+
+unfoldable pub handedState : State → ℕ → ℕ → Stage → State
+handedState s n left more =
     let r = s .link .task .residue - n in
-    withState d
-    (moved s (s .unit .sense) (haltAtEnd (leb left packetSize) r (s .link .haltin)) (s .link .haltout) (onward s (if leb left packetSize then StatusDue Passed else more) r))
+    moved s (s .unit .sense) (haltAtEnd (leb left packetSize) r (s .link .haltin)) (s .link .haltout) (onward s (nextIn left more) r)
+
+unfoldable pub handedOut : Device → ℕ → ℕ → Stage → Device
+handedOut d n left more = withState d (handedState (d .state) n left more)
 
 -- The next packet of the bytes s, from a place on.
 unfoldable pub onAsk : Device → List ℕ → ℕ → ℕ → Stage → List ℕ → Reaction

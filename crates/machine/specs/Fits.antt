@@ -53,18 +53,23 @@ lockFits l = if l .locked then l .haltin and l .haltout else true
 
 -- "a running transfer's blocks lie in the unit, or its reply bytes in the reply; its part block is a multiple of 64 below 512; its bytes still due,
 -- a part block's included, are at most its residue, and that, with a status due too, at most the announced length"
-unfoldable pub taskFits : ℕ → Stage → ℕ → ℕ → Bool
-taskFits blocks Ready announced residue = true
-taskFits blocks (DataOut block left held) announced residue =
+unfoldable pub outFits : ℕ → ℕ → ℕ → ℕ → ℕ → ℕ → Bool
+outFits blocks block left held announced residue =
     leb (block + left) blocks
     and eqb (held % 64) 0
     and ltb held blockSize
     and leb (blockSize * left) residue
     and leb residue announced
-taskFits blocks (DataIn place left) announced residue =
-    leb (place + left) (blockSize * blocks) and leb left residue and leb residue announced
-taskFits blocks (ReplyIn reply place left) announced residue =
-    leb (place + left) (length (replyData reply)) and leb left residue and leb residue announced
+
+-- Bytes out of so many.
+unfoldable pub inFits : ℕ → ℕ → ℕ → ℕ → ℕ → Bool
+inFits size place left announced residue = leb (place + left) size and leb left residue and leb residue announced
+
+unfoldable pub taskFits : ℕ → Stage → ℕ → ℕ → Bool
+taskFits blocks Ready announced residue = true
+taskFits blocks (DataOut block left held) announced residue = outFits blocks block left held announced residue
+taskFits blocks (DataIn place left) announced residue = inFits (blockSize * blocks) place left announced residue
+taskFits blocks (ReplyIn reply place left) announced residue = inFits (length (replyData reply)) place left announced residue
 taskFits blocks (StatusDue status) announced residue = leb residue announced
 
 unfoldable pub fits : Identity → State → Bool

@@ -50,14 +50,24 @@ unfoldable pub check : Bool → Answer → Verdict → Verdict
 check true a v = v
 check false a v = refuses a
 
+unfoldable pub inOrder : Bool → Bool → Bool → Bool → Bool → Bool → Verdict
+inOrder fit medium buffer packet setup configured =
+    check fit (Refused refusal.Record)
+    (check medium (Refused refusal.Medium)
+    (check buffer (Refused refusal.Buffer)
+    (check packet (Refused refusal.Packet)
+    (check setup (Refused refusal.Setup)
+    (check configured Silent passes)))))
+
 unfoldable pub checks : Device → Inputs → Verdict
 checks d i =
-    check (fits (d .identity) (d .state)) (Refused refusal.Record)
-    (check (where-lent (i .medium) (λ m. eqb (length m) (blockSize * d .state .unit .blocks))) (Refused refusal.Medium)
-    (check (where-lent (i .buffer) (λ b. leb packetSize (length b))) (Refused refusal.Buffer)
-    (check (where-lent (i .packet) (λ p. leb (length p) packetSize)) (Refused refusal.Packet)
-    (check (where-lent (i .setup) (λ s. eqb (length s) 8)) (Refused refusal.Setup)
-    (check (if i .bulk then d .state .configured else true) Silent passes)))))
+    inOrder
+    (fits (d .identity) (d .state))
+    (where-lent (i .medium) (λ m. eqb (length m) (blockSize * d .state .unit .blocks)))
+    (where-lent (i .buffer) (λ b. leb packetSize (length b)))
+    (where-lent (i .packet) (λ p. leb (length p) packetSize))
+    (where-lent (i .setup) (λ s. eqb (length s) 8))
+    (if i .bulk then d .state .configured else true)
 
 abbrev pub resetInputs : Inputs
 resetInputs = record { medium = nothing; buffer = nothing; packet = nothing; setup = nothing; bulk = false }

@@ -1,7 +1,7 @@
 -- `handed_state` meets its contract. Assumes nothing.
+use Rattle.machine.specs.Bulk.{handedState}
 use mathlib.Core.Path.{sym}
 use Rattle.machine.specs.Record.{moved}
-use Rattle.collector.specs.Parts.{handedState}
 use borrow.Author.Needs.{needs}
 use Rattle.collector.proofs.inward.handed_state.Statement.{statement}
 use Rattle.collector.proofs.inward.handed_state.Tie as tie

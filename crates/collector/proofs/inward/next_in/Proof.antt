@@ -1,7 +1,7 @@
 -- `next_in` meets its contract. Assumes nothing.
+use Rattle.machine.specs.Bulk.{nextIn}
 use borrow.Author.Tests.{le-leb, lt-leb}
 use Rattle.wire.specs.Choice.{if_then_else_}
-use Rattle.collector.specs.Parts.{nextIn}
 use Rattle.collector.proofs.inward.next_in.Statement.{statement}
 use Rattle.collector.proofs.inward.next_in.Tie as tie
 

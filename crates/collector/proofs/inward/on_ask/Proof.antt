@@ -6,10 +6,8 @@ use native.Mathlib.Nat.{add-sub-cancel-left, min-eq-left, min-eq-right}
 use lib.ListN.{length}
 use borrow.Author.Tests.{eq-eqb}
 use Rattle.wire.specs.Choice.{if_then_else_}
-use Rattle.machine.specs.Bulk.{handedOut, onAsk}
-use Rattle.collector.specs.Parts.{handedState}
+use Rattle.machine.specs.Bulk.{handedOut, onAsk, handedState, nextIn}
 use Rattle.collector.proofs.Running.{asked}
-use Rattle.collector.specs.Parts.{nextIn}
 use borrow.Author.Needs.{needs}
 use Rattle.collector.proofs.inward.on_ask.Statement.{statement}
 use Rattle.collector.proofs.inward.on_ask.Tie as tie

@@ -1,6 +1,6 @@
 -- `cut_state` meets its contract. Assumes nothing.
+use Rattle.machine.specs.Bulk.{cutState}
 use Rattle.machine.specs.Record.{moved}
-use Rattle.collector.specs.Parts.{cutState}
 use borrow.Author.Needs.{needs}
 use Rattle.collector.proofs.outward.cut_state.Statement.{statement}
 use Rattle.collector.proofs.outward.cut_state.Tie as tie

@@ -1,6 +1,6 @@
 -- `gathered_state` meets its contract. Assumes nothing.
+use Rattle.machine.specs.Bulk.{gatheredState}
 use Rattle.machine.specs.Record.{moved}
-use Rattle.collector.specs.Parts.{gatheredState}
 use borrow.Author.Needs.{needs}
 use Rattle.collector.proofs.outward.gathered_state.Statement.{statement}
 use Rattle.collector.proofs.outward.gathered_state.Tie as tie

@@ -1,8 +1,7 @@
 -- `on_data` meets its contract. Assumes nothing.
 use borrow.Author.Tests.{lt-ltb, le-ltb, eq-eqb, ne-eqb}
 use Rattle.wire.specs.Choice.{if_then_else_}
-use Rattle.machine.specs.Bulk.{cutShort, gathered, storedBlock, onData}
-use Rattle.collector.specs.Parts.{cutState, gatheredState, storedState}
+use Rattle.machine.specs.Bulk.{cutShort, gathered, storedBlock, onData, cutState, gatheredState, storedState}
 use borrow.Author.Needs.{needs}
 use Rattle.collector.proofs.outward.on_data.Statement.{statement}
 use Rattle.collector.proofs.outward.on_data.Tie as tie

@@ -1,7 +1,7 @@
 -- `stored_state` meets its contract. Assumes nothing.
+use Rattle.machine.specs.Bulk.{storedState}
 use mathlib.Core.Path.{sym}
 use Rattle.machine.specs.Record.{moved}
-use Rattle.collector.specs.Parts.{storedState}
 use borrow.Author.Needs.{needs}
 use Rattle.collector.proofs.outward.stored_state.Statement.{statement}
 use Rattle.collector.proofs.outward.stored_state.Tie as tie

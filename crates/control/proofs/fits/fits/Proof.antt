@@ -2,8 +2,7 @@
 use mathlib.Core.Path.{sym, _∙_}
 use borrow.Author.Tests.{not-true, not-false, le-leb, lt-leb}
 use Rattle.wire.specs.Choice.{_and_}
-use Rattle.machine.specs.Fits.{addressFits}
-use Rattle.machine.specs.Fits.{fits}
+use Rattle.machine.specs.Fits.{addressFits, fits}
 use borrow.Author.Needs.{needs}
 use Rattle.control.proofs.fits.fits.Statement.{statement}
 use Rattle.control.proofs.fits.fits.Tie as tie

@@ -1,7 +1,7 @@
 -- `in_fits` meets its contract. Assumes nothing.
 use borrow.Author.Tests.{le-leb, lt-leb}
 use Rattle.wire.specs.Choice.{_and_}
-use Rattle.control.specs.Transfers.{inFits}
+use Rattle.machine.specs.Fits.{inFits}
 use borrow.Author.Needs.{needs}
 use Rattle.control.proofs.fits.in_fits.Statement.{statement}
 use Rattle.control.proofs.fits.in_fits.Tie as tie

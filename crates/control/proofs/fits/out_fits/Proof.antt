@@ -1,7 +1,7 @@
 -- `out_fits` meets its contract. Assumes nothing.
 use borrow.Author.Tests.{lt-ltb, le-ltb, le-leb, lt-leb, eq-eqb, ne-eqb}
 use Rattle.wire.specs.Choice.{_and_}
-use Rattle.control.specs.Transfers.{outFits}
+use Rattle.machine.specs.Fits.{outFits}
 use borrow.Author.Needs.{needs}
 use Rattle.control.proofs.fits.out_fits.Statement.{statement}
 use Rattle.control.proofs.fits.out_fits.Tie as tie

@@ -1,7 +1,6 @@
 -- `task_fits` meets its contract. Assumes nothing.
 use mathlib.Core.Path.{sym}
-use Rattle.machine.specs.Fits.{taskFits}
-use Rattle.control.specs.Transfers.{outFits, inFits}
+use Rattle.machine.specs.Fits.{taskFits, outFits, inFits}
 use borrow.Author.Needs.{needs}
 use Rattle.control.proofs.fits.task_fits.Statement.{statement}
 use Rattle.control.proofs.fits.task_fits.Tie as tie

@@ -1,42 +1,41 @@
 -- `admit` meets its contract. Assumes nothing.
 use borrow.Author.Tests.{not-true, not-false}
 use Rattle.wire.specs.Slices.{fits}
-use Rattle.machine.specs.Machine.{check}
-use Rattle.control.specs.Gates.{chain}
+use Rattle.machine.specs.Machine.{check, inOrder}
 use Rattle.control.proofs.gate.admit.Statement.{statement}
 use Rattle.control.proofs.gate.admit.Tie as tie
 
 returns : tie.Need-returns
-unfolding chain check
+unfolding inOrder check
 returns c = simp (not-true (c .before .args .fits) (c .if1 .taken))
 
 returns-2 : tie.Need-returns-2
-unfolding chain check
+unfolding inOrder check
 returns-2 c =
     simp (not-false (c .before .before .args .fits) (c .before .if1 .left), not-true (c .before .before .args .medium) (c .if2 .taken))
 
 returns-3 : tie.Need-returns-3
-unfolding chain check
+unfolding inOrder check
 returns-3 c =
     simp (not-false (c .before .before .before .args .fits) (c .before .before .if1 .left), not-false (c .before .before .before .args .medium) (c .before .if2 .left), not-true (c .before .before .before .args .buffer) (c .if3 .taken))
 
 returns-4 : tie.Need-returns-4
-unfolding chain check
+unfolding inOrder check
 returns-4 c =
     simp (not-false (c .before .before .before .before .args .fits) (c .before .before .before .if1 .left), not-false (c .before .before .before .before .args .medium) (c .before .before .if2 .left), not-false (c .before .before .before .before .args .buffer) (c .before .if3 .left), not-true (c .before .before .before .before .args .packet) (c .if4 .taken))
 
 returns-5 : tie.Need-returns-5
-unfolding chain check
+unfolding inOrder check
 returns-5 c =
     simp (not-false (c .before .before .before .before .before .args .fits) (c .before .before .before .before .if1 .left), not-false (c .before .before .before .before .before .args .medium) (c .before .before .before .if2 .left), not-false (c .before .before .before .before .before .args .buffer) (c .before .before .if3 .left), not-false (c .before .before .before .before .before .args .packet) (c .before .if4 .left), not-true (c .before .before .before .before .before .args .setup) (c .if5 .taken))
 
 returns-6 : tie.Need-returns-6
-unfolding chain check
+unfolding inOrder check
 returns-6 c =
     simp (not-false (c .before .before .before .before .before .before .args .fits) (c .before .before .before .before .before .if1 .left), not-false (c .before .before .before .before .before .before .args .medium) (c .before .before .before .before .if2 .left), not-false (c .before .before .before .before .before .before .args .buffer) (c .before .before .before .if3 .left), not-false (c .before .before .before .before .before .before .args .packet) (c .before .before .if4 .left), not-false (c .before .before .before .before .before .before .args .setup) (c .before .if5 .left), not-true (c .before .before .before .before .before .before .args .configured) (c .if6 .taken))
 
 returns-7 : tie.Need-returns-7
-unfolding chain check
+unfolding inOrder check
 returns-7 c =
     simp (not-false (c .before .before .before .before .before .before .args .fits) (c .before .before .before .before .before .if1 .left), not-false (c .before .before .before .before .before .before .args .medium) (c .before .before .before .before .if2 .left), not-false (c .before .before .before .before .before .before .args .buffer) (c .before .before .before .if3 .left), not-false (c .before .before .before .before .before .before .args .packet) (c .before .before .if4 .left), not-false (c .before .before .before .before .before .before .args .setup) (c .before .if5 .left), not-false (c .before .before .before .before .before .before .args .configured) (c .if6 .left))
 
