@@ -8,17 +8,17 @@ use lib.Dec.{leb, ltb, eqb}
 use lib.ListN.{length, drop}
 use borrow.Author.Tests.{leb-true, leb-false, ltb-true, eqb-true, eqb-false, le-leb, lt-ltb, eq-eqb}
 use Rattle.wire.specs.Choice.{if_then_else_, _and_}
-use Rattle.wire.specs.Numbers.{low}
-use Rattle.wire.specs.Slices.{zeros}
 use Rattle.wire.proofs.Cases.{both, and-true, by-if, if-true, if-false}
-use Rattle.scsi.specs.Reply.{replyData, senseData, inquiryData, padded, modeData, capacityData}
+use Rattle.scsi.specs.Reply.{replyData}
 use Rattle.scsi.specs.Sense.{isNoSense}
 use Rattle.scsi.specs.declared.command.Plan.{Plan}
 use Rattle.scsi.specs.declared.command.Plan.the-variants.{Failed, Nothing, Reply, Read, Write}
 use Rattle.scsi.specs.declared.reply.ReplyKind.{ReplyKind}
 use Rattle.scsi.specs.declared.reply.ReplyKind.the-variants as kind
 use Rattle.scsi.specs.declared.sense.Sense.{Sense}
-use Rattle.scsi.proofs.Plans.{PlanFits, replySize, plan-fits}
+use Rattle.scsi.specs.declared.reply.Reply.the-variants as reply
+use Rattle.scsi.proofs.Replies.{replySize, reply-length}
+use Rattle.scsi.proofs.Plans.{PlanFits, plan-fits}
 use Rattle.bot.specs.Cases.{caseOf}
 use Rattle.bot.specs.declared.cases.Transfer.{Transfer}
 use Rattle.bot.specs.declared.cases.Case.{Case}
@@ -82,11 +82,11 @@ fits-of i s f = and-true _ _ (f .size) (and-true _ _ (f .number) (and-true _ _ (
 
 -- the length of a reply, whatever was found
 size-of : (k : ReplyKind) (u : LogicalUnit) → length (replyData (replyOf k u)) ≡ replySize k
-unfolding replyOf senseData inquiryData padded modeData capacityData zeros low
-size-of kind.Sense u = refl
-size-of kind.Inquiry u = refl
-size-of kind.ModeSense u = refl
-size-of kind.Capacity u = refl
+unfolding replyOf
+size-of kind.Sense u = reply-length (reply.Sense (u .sense))
+size-of kind.Inquiry u = reply-length reply.Inquiry
+size-of kind.ModeSense u = reply-length reply.ModeSense
+size-of kind.Capacity u = reply-length (reply.Capacity (u .blocks))
 
 same-le : (n : ℕ) → leb n n ≡ true
 same-le n = le-leb n n (omega arith)

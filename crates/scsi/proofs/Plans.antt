@@ -1,23 +1,19 @@
--- What a plan never passes: the unit's blocks, and the reply's length. Assumes nothing.
-use Prim.Native.Nat.{ℕ, _+_, _≤_}
+-- What a plan goes by and what it never passes: the block's first ten bytes; the unit's blocks and the reply's length. Assumes nothing.
+use Prim.Native.Nat.{ℕ, _+_, _≤_, _<_}
+use mathlib.Core.Path.{_≡_, refl, sym, ap, _∙_}
 use mathlib.Core.List.{List}
 use native.Mathlib.Omega.{arith}
 use lib.Dec.{ltb}
 use borrow.Author.Tests.{leb-true, ltb-true}
-use Rattle.wire.specs.Slices.{byteAt}
+use Rattle.wire.specs.Slices.{byteAt, bytesAt}
 use Rattle.wire.proofs.Cases.{by-if, look-all}
+use Rattle.wire.proofs.Lists.{bytes-same}
 use Rattle.scsi.specs.declared.command.Plan.{Plan}
 use Rattle.scsi.specs.declared.command.Plan.the-variants.{Failed, Nothing, Reply, Read, Write}
 use Rattle.scsi.specs.declared.reply.ReplyKind.{ReplyKind}
 use Rattle.scsi.specs.declared.reply.ReplyKind.the-variants as kind
 use Rattle.scsi.specs.Command.{Command, cut, within, address, count, commands, unknown, commandOf, planBy, planOf}
-
--- the length of each reply
-abbrev pub replySize : ReplyKind → ℕ
-replySize kind.Sense = 18
-replySize kind.Inquiry = 36
-replySize kind.ModeSense = 4
-replySize kind.Capacity = 8
+use Rattle.scsi.proofs.Replies.{replySize}
 
 abbrev pub PlanFits : ℕ → Plan → Type 0
 PlanFits blocks (Failed s) = Unit {0}
@@ -70,3 +66,27 @@ every-row code =
 pub plan-fits : (b : List ℕ) (blocks : ℕ) → PlanFits blocks (planOf b blocks)
 unfolding planOf planBy
 plan-fits b blocks = by-if (PlanFits blocks) _ _ _ (λ _. every-row (byteAt b 0) blocks b) (λ _. tt)
+
+-- ---- a plan goes by the block's first ten bytes
+
+abbrev Fronted : Command → Type 0
+Fronted c = (n : ℕ) (b : List ℕ) → planBy c n b ≡ planBy c n (bytesAt 10 0 b)
+
+by-front : (code : ℕ) → Fronted (commandOf code)
+unfolding commandOf commands planBy bytesAt cut within
+by-front code =
+    look-all Fronted _ code unknown (
+      (λ n b. refl),
+      (
+        (λ n b. refl),
+        ((λ n b. refl), ((λ n b. refl), ((λ n b. refl), ((λ n b. refl), ((λ n b. refl), ((λ n b. refl), ((λ n b. refl), tt))))))),
+      ),
+    )
+    (λ n b. refl)
+
+plan-front : (b : List ℕ) (n : ℕ) → planOf b n ≡ planOf (bytesAt 10 0 b) n
+unfolding planOf bytesAt
+plan-front b n = by-front (byteAt b 0) n b
+
+pub plan-bytes : (b b′ : List ℕ) (n : ℕ) → ((i : ℕ) → i < 10 → byteAt b i ≡ byteAt b′ i) → planOf b n ≡ planOf b′ n
+plan-bytes b b′ n h = plan-front b n ∙ ap (λ (s : List ℕ). planOf s n) (bytes-same 10 0 b b′ h) ∙ sym (plan-front b′ n)

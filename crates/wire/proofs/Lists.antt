@@ -91,6 +91,12 @@ bytes-join zero m at s = rw (zero-add m, add-zero at)
 bytes-join (suc n) m at s =
     rw (suc-add n m) (ap (λ (l : List ℕ). byteAt s at ∷ l) (bytes-join n m (at + 1) s ∙ ap (λ (k : ℕ). bytesAt n (at + 1) s ++ bytesAt m k s) (add-assoc at 1 n ∙ ap (λ (k : ℕ). at + k) (one-add n))))
 
+-- lists that have the same bytes there
+pub bytes-same : (n at : ℕ) (s t : List ℕ) → ((i : ℕ) → i < at + n → byteAt s i ≡ byteAt t i) → bytesAt n at s ≡ bytesAt n at t
+unfolding bytesAt
+bytes-same zero at s t h = refl
+bytes-same (suc n) at s t h = ap₂ _∷_ (h at (omega arith)) (bytes-same n (at + 1) s t (λ i l. h i (omega arith)))
+
 pub length-bytes : (n at : ℕ) (s : List ℕ) → length (bytesAt n at s) ≡ n
 unfolding bytesAt
 length-bytes zero at s = refl
