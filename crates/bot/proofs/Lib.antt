@@ -1,3 +1,2 @@
 pub mod Wrappers
 pub mod RoundTrip
-pub mod Meetings

@@ -40,10 +40,25 @@ headerOf p = record {
   size = bits 0 4 (byteAt p 14);
 }
 
-unfoldable pub headerRead : List ℕ → HeaderRead
-headerRead p = if readable p then Readable (headerOf p) else Unreadable
+abbrev pub zeroHeader : Header
+zeroHeader = record { tag = 0; announced = 0; inward = false; lun = 0; size = 0 }
 
--- What reading gives: the number and the fields.
+-- What reading the fields alone gives: document 01's number and the fields, zero where it is 17.
+pub record Fields : Type 0 where
+  pub number : ℕ
+  pub header : Header
+
+abbrev pub fields : ℕ → Header → Fields
+fields n h = record { number = n; header = h }
+
+abbrev pub shownHeader : HeaderRead → Fields
+shownHeader (Readable h) = fields 1 h
+shownHeader Unreadable = fields 17 zeroHeader
+
+unfoldable pub readHeader : List ℕ → Fields
+readHeader p = if readable p then fields 1 (headerOf p) else fields 17 zeroHeader
+
+-- What reading all of it gives: the number and the fields.
 pub record Reading : Type 0 where
   pub number : ℕ
   pub cbw : Cbw
@@ -52,10 +67,7 @@ abbrev pub shown : CbwRead → Reading
 shown r = record { number = numberOf (r .answer); cbw = r .cbw }
 
 unfoldable pub zeroCbw : Cbw
-zeroCbw = record {
-  header = record { tag = 0; announced = 0; inward = false; lun = 0; size = 0 };
-  block = zeros 16;
-}
+zeroCbw = record { header = zeroHeader; block = zeros 16 }
 
 -- "The command block is read where it stands, from byte 15 of the wrapper."
 unfoldable pub readCbw : List ℕ → Reading

@@ -1,5 +1,4 @@
 pub mod Answer
 pub mod Cbw
 pub mod Csw
-pub mod Cases
 pub mod Claims

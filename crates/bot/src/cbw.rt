@@ -1,6 +1,6 @@
 // The command wrapper (BOT 5.1).
 ghost use mathlib.Core.Path.{_≡_};
-ghost use Rattle.bot.specs.Cbw.{inRange, readable, writable, headerRead, direction, cbwBytes, readCbw, shown, writeCbw};
+ghost use Rattle.bot.specs.Cbw.{inRange, readable, writable, readHeader, shownHeader, direction, cbwBytes, readCbw, shown, writeCbw};
 ghost use Rattle.bot.specs.Answer.{written};
 use crate::answer::Answer;
 use wire::fields::le32;
@@ -67,7 +67,7 @@ fn is_readable(bytes: &[u8]) -> bool
 
 // The fields alone: the command block is read where it stands, from byte 15 on.
 pub fn read_header(bytes: &[u8]) -> HeaderRead
-    ensures { λ r. ⌜ r ≡ headerRead (now (bytes .entry)) ⌝ }
+    ensures { λ r. ⌜ shownHeader r ≡ readHeader (now (bytes .entry)) ⌝ }
 {
     if !is_readable(bytes) {
         return HeaderRead::Unreadable;
@@ -75,7 +75,7 @@ pub fn read_header(bytes: &[u8]) -> HeaderRead
     HeaderRead::Readable(Header {
         tag: le32(bytes, 4),
         announced: le32(bytes, 8),
-        inward: bytes[12] & 0x80 != 0,
+        inward: bytes[12] >> 7 != 0,
         lun: bytes[13] & 0x0F,
         size: bytes[14] & 0x1F,
     })
@@ -113,7 +113,7 @@ pub fn read_cbw(bytes: &[u8]) -> CbwRead
 fn direction_byte(inward: bool) -> u8
     ensures { λ r. ⌜ r ≡ direction inward ⌝ }
 {
-    if inward { 0x80 } else { 0x00 }
+    if inward { 1 << 7 } else { 0 }
 }
 
 fn cbw_bytes(cbw: Cbw) -> [u8; 31]

@@ -13,7 +13,7 @@ use Rattle.wire.specs.Slices.{bytesAt, zeros, startsWith}
 use Rattle.wire.proofs.Cases.{both, if-false}
 use Rattle.scsi.specs.Command.{blockLength, commandOf, commands, planBy, planOf}
 use Rattle.scsi.specs.Sense.{noSense}
-use Rattle.bot.specs.Cases.{counted, meeting, caseOf}
+use Rattle.cases.specs.Cases.{counted, meeting, caseOf}
 use Rattle.bot.specs.Cbw.{cbwSignature, inRange, readable, headerOf}
 use Rattle.bot.specs.declared.csw.Status.the-variants.{Passed}
 use Rattle.machine.specs.declared.record.Stage.{Stage}

@@ -6,7 +6,7 @@ use Rattle.wire.specs.Bits.{bits, clear}
 use Rattle.scsi.specs.Sense.{isNoSense}
 use Rattle.scsi.specs.Command.{cut, within, commands, commandOf, blockLength, planBy, planOf}
 use Rattle.scsi.specs.Reply.{senseData, padded, inquiryData, modeData, capacityData}
-use Rattle.bot.specs.Cases.{sameWay, counted, meeting, caseOf}
+use Rattle.cases.specs.Cases.{sameWay, counted, meeting, caseOf}
 use Rattle.bot.specs.Cbw.{inRange, readable, headerOf}
 use Rattle.bot.specs.Csw.{cswBytes}
 use Rattle.usb.specs.Descriptor.{deviceDescriptor, configurationDescriptor, utf16, stringDescriptor}

@@ -10,12 +10,12 @@ use Rattle.wire.specs.Choice.{if_then_else_, _and_}
 use Rattle.wire.proofs.Cases.{by-if}
 use Rattle.scsi.specs.declared.command.Plan.{Plan}
 use Rattle.scsi.specs.declared.command.Plan.the-variants.{Failed, Nothing, Reply, Read, Write}
-use Rattle.bot.specs.Cases.{counted, meeting, sameWay, caseOf}
-use Rattle.bot.specs.declared.cases.Transfer.{Transfer}
-use Rattle.bot.specs.declared.cases.Transfer.the-variants.{None, In, Out}
-use Rattle.bot.specs.declared.cases.Ending.{Ending}
-use Rattle.bot.specs.declared.cases.Ending.the-variants as ending
-use Rattle.bot.specs.declared.cases.Case.{Case}
+use Rattle.cases.specs.Cases.{counted, meeting, sameWay, caseOf}
+use Rattle.cases.specs.declared.Transfer.{Transfer}
+use Rattle.cases.specs.declared.Transfer.the-variants.{None, In, Out}
+use Rattle.cases.specs.declared.Ending.{Ending}
+use Rattle.cases.specs.declared.Ending.the-variants as ending
+use Rattle.cases.specs.declared.Case.{Case}
 use Rattle.bot.specs.declared.cbw.Header.{Header}
 use Rattle.machine.specs.declared.record.Stage.{Stage}
 use Rattle.machine.specs.declared.record.Stage.the-variants.{Ready, DataOut, DataIn, ReplyIn, StatusDue}

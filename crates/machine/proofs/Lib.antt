@@ -8,6 +8,7 @@ pub mod Due
 pub mod Lock
 pub mod Demand
 pub mod Reach
+pub mod Halts
 pub mod StepLaws
 pub mod Beside
 pub mod Compute

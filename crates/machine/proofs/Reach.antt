@@ -19,13 +19,14 @@ use Rattle.scsi.specs.declared.sense.Sense.{Sense}
 use Rattle.scsi.specs.declared.reply.Reply.the-variants as reply
 use Rattle.scsi.proofs.Replies.{replySize, reply-length}
 use Rattle.scsi.proofs.Plans.{PlanFits, plan-fits}
-use Rattle.bot.specs.Cases.{caseOf}
-use Rattle.bot.specs.declared.cases.Transfer.{Transfer}
-use Rattle.bot.specs.declared.cases.Case.{Case}
+use Rattle.cases.specs.Cases.{caseOf}
+use Rattle.cases.specs.declared.Transfer.{Transfer}
+use Rattle.cases.specs.declared.Case.{Case}
 use Rattle.bot.specs.declared.cbw.Header.{Header}
 use Rattle.bot.specs.declared.csw.Status.{Status}
 use Rattle.bot.specs.declared.csw.Status.the-variants as status
-use Rattle.bot.proofs.Meetings.{amount, Moves, no-data, no-match, all-in, all-out, case-moves}
+use Rattle.cases.specs.Claims.{amount, Follows, no-data, no-match, all-in, all-out}
+use Rattle.cases.proofs.Moves.{cases-follow}
 use Rattle.usb.specs.Request.{requestOf}
 use Rattle.usb.specs.declared.descriptor.Identity.{Identity}
 use Rattle.usb.specs.declared.request.Endpoint.{Endpoint}
@@ -103,17 +104,20 @@ data-fits (Read block count) u a f h =
 data-fits (Write block count) u a f h =
     and-true _ _ (le-leb (block + count) (u .blocks) f) (and-true _ _ refl (and-true _ _ refl (and-true _ _ (le-leb (512 * count) a h) (same-le a))))
 
-case-fits : (p : Plan) (u : LogicalUnit) (a : ℕ) (c : Case) → PlanFits (u .blocks) p → Moves a (amount (hasOf p)) c
+case-fits : (p : Plan) (u : LogicalUnit) (a : ℕ) (c : Case) → PlanFits (u .blocks) p → Follows a (amount (hasOf p)) c
     → taskFits (u .blocks) (staged (c .ending) (c .moves) p u) a a ≡ true
 unfolding taskFits staged firstStage outFits inFits
-case-fits p u a c f no-data = same-le a
-case-fits p u a c f no-match = same-le a
+case-fits p u a c f (no-data e) = same-le a
+case-fits p u a c f (no-match e) = same-le a
 case-fits p u a c f (all-in h) = data-fits p u a f h
 case-fits p u a c f (all-out h) = data-fits p u a f h
 
 host-amount : (h : Header) → amount (hostOf h) ≡ h .announced
 unfolding hostOf
 host-amount h = by-if (λ (t : Transfer). amount t ≡ h .announced) (h .inward) _ _ (λ _. refl) (λ _. refl)
+
+pub case-follows : (h : Header) (p : Plan) → Follows (h .announced) (amount (hasOf p)) (caseOf (hostOf h) (hasOf p))
+case-follows h p = subst (λ (a : ℕ). Follows a (amount (hasOf p)) (caseOf (hostOf h) (hasOf p))) (host-amount h) (cases-follow (hostOf h) (hasOf p))
 
 -- ---- what each way of changing the record keeps
 
@@ -288,7 +292,7 @@ module _ (d : Device) (m : List ℕ) (f : Fine d) where
       wrappers Broken e = halts i s f c true true true (λ _. refl)
       wrappers (Good h x) e =
           moves i s f c free _ _ _ _
-          (case-fits x (s .unit) (h .announced) _ (planned (s .unit .blocks) p h x e) (subst (λ (a : ℕ). Moves a (amount (hasOf x)) (caseOf (hostOf h) (hasOf x))) (host-amount h) (case-moves (hostOf h) (hasOf x))))
+          (case-fits x (s .unit) (h .announced) _ (planned (s .unit .blocks) p h x e) (case-follows h x))
 
       -- the bounds of a write, as facts
       out-bounds : (block left held : ℕ) → s .link .task .stage ≡ DataOut block left held

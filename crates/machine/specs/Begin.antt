@@ -10,15 +10,15 @@ use Rattle.scsi.specs.declared.reply.ReplyKind.{ReplyKind}
 use Rattle.scsi.specs.declared.reply.ReplyKind.the-variants as kind
 use Rattle.scsi.specs.declared.reply.Reply as replies
 use Rattle.scsi.specs.declared.reply.Reply.the-variants as reply
-use Rattle.bot.specs.Cases.{caseOf}
-use Rattle.bot.specs.declared.cases.Transfer.{Transfer}
-use Rattle.bot.specs.declared.cases.Transfer.the-variants.{None, In, Out}
-use Rattle.bot.specs.declared.cases.Pipe.the-variants as pipe
-use Rattle.bot.specs.declared.cases.Halt.{Halt}
-use Rattle.bot.specs.declared.cases.Halt.the-variants as halt
-use Rattle.bot.specs.declared.cases.Ending.{Ending}
-use Rattle.bot.specs.declared.cases.Ending.the-variants as ending
-use Rattle.bot.specs.declared.cases.Case.{Case}
+use Rattle.cases.specs.Cases.{caseOf}
+use Rattle.cases.specs.declared.Transfer.{Transfer}
+use Rattle.cases.specs.declared.Transfer.the-variants.{None, In, Out}
+use Rattle.cases.specs.declared.Pipe.the-variants as pipe
+use Rattle.cases.specs.declared.Halt.{Halt}
+use Rattle.cases.specs.declared.Halt.the-variants as halt
+use Rattle.cases.specs.declared.Ending.{Ending}
+use Rattle.cases.specs.declared.Ending.the-variants as ending
+use Rattle.cases.specs.declared.Case.{Case}
 use Rattle.bot.specs.declared.cbw.Header.{Header}
 use Rattle.bot.specs.declared.csw.Status.{Status}
 use Rattle.bot.specs.declared.csw.Status.the-variants as status

@@ -11,5 +11,6 @@ pub mod Machine
 pub mod Tally
 pub mod Claim
 pub mod Beside
+pub mod Halts
 pub mod Sheet
 pub mod Witness

@@ -2,11 +2,11 @@
 use crate::print::end;
 use crate::print::text;
 use crate::print::word;
-use bot::cases::Ending;
-use bot::cases::Halt;
-use bot::cases::Pipe;
-use bot::cases::Transfer;
-use bot::cases::case_of;
+use cases::Ending;
+use cases::Halt;
+use cases::Pipe;
+use cases::Transfer;
+use cases::case_of;
 
 fn moves(transfer: Transfer) {
     match transfer {

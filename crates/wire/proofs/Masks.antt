@@ -1,10 +1,10 @@
--- A mask that tests or takes bits. Assumes nothing.
+-- A mask or a shift that tests or takes bits. Assumes nothing.
 use Prim.Native.Nat.{ℕ, zero, suc, _+_, _*_, _-_, _/_, _%_, _^_, _≤_, _<_}
-use mathlib.Core.Path.{_≡_, sym, ap, _∙_}
+use mathlib.Core.Path.{_≡_, sym, ap, subst, _∙_}
 use native.Mathlib.Omega.{arith}
-use native.Mathlib.Nat.{zero-mul, mul-pos, sub-add-cancel, sub-zero, div-one}
+use native.Mathlib.Nat.{zero-mul, mul-pos, sub-add-cancel, sub-zero, div-one, mod-eq-of-lt, div-lt-iff-lt-mul}
 use lib.Dec.{eqb}
-use lib.Pow.{pow-pos}
+use lib.Pow.{pow-pos, pow-add}
 use lib.Bits.{bitAnd, and-high, and-mask}
 use borrow.Author.Tests.{ne-eqb}
 use Rattle.wire.specs.Bits.{bits, clear}
@@ -30,3 +30,10 @@ low-bits hi x =
     ap (λ (k : ℕ). x / 1 % 2 ^ k) (sub-zero (hi + 1))
     ∙ ap (λ (y : ℕ). y % 2 ^ (hi + 1)) (div-one x)
     ∙ sym (and-mask x (hi + 1))
+
+-- bits lo to the top one are what a shift by lo leaves
+pub top-bits : (lo hi x : ℕ) → lo ≤ hi + 1 → x < 2 ^ (hi + 1) → bits lo hi x ≡ x / 2 ^ lo
+unfolding bits
+top-bits lo hi x h l =
+    let e : 2 ^ (hi + 1) ≡ 2 ^ (hi + 1 - lo) * 2 ^ lo = ap (λ (k : ℕ). 2 ^ k) (sym (sub-add-cancel h)) ∙ pow-add 2 (hi + 1 - lo) lo in
+    mod-eq-of-lt (div-lt-iff-lt-mul (pow-pos lo) .1 (subst (λ (n : ℕ). x < n) e l))

@@ -17,7 +17,7 @@ use Rattle.bot.proofs.cbw.read_cbw.Tie as tie
 
 -- what a read header tells of the bytes
 told : (c : tie.After-block) → (readable (c .before .before .before .before .before .before .args .bytes .now) ≡ true) × (c .before .before .header .given .0 .0 ≡ headerOf (c .before .before .before .before .before .before .args .bytes .now))
-told c = read-readable _ _ (sym (c .before .before .before .before .read-header .ensures) ∙ c .before .before .header .given .1)
+told c = read-readable _ _ _ (c .before .before .before .before .read-header .ensures) (c .before .before .header .given .1)
 
 abbrev reading : Header → List ℕ → Reading
 reading h s = record { number = 1; cbw = record { header = h; block = s } }
@@ -48,7 +48,7 @@ put-requires c κs = search needs
 
 returns : tie.Need-returns
 unfolding readCbw zeroCbw zeros if_then_else_
-returns c = simp (not-readable _ (sym (c .before .before .read-header .ensures) ∙ c .enum-told .given .1))
+returns c = simp (not-readable _ _ (c .before .before .read-header .ensures) (c .enum-told .given .1))
 
 returns-2 : tie.Need-returns-2
 unfolding readCbw if_then_else_

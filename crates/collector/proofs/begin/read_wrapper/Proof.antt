@@ -27,7 +27,7 @@ enum-known-header c = search needs
 returns : tie.Need-returns
 unfolding wrapperOf accepted _and_ if_then_else_
 returns c =
-    let t = read-readable _ _ (sym (c .before .before .before .before .read-header .ensures) ∙ c .before .before .header .given .1) in
+    let t = read-readable _ _ _ (c .before .before .before .before .read-header .ensures) (c .before .before .header .given .1) in
     simp (t .0, sym (t .1), ne-eqb _ _ (c .if1 .taken))
 
 byte-requires : tie.Need-byte-requires
@@ -39,17 +39,17 @@ block-length-requires c κs = search needs
 returns-2 : tie.Need-returns-2
 unfolding wrapperOf accepted _and_ if_then_else_
 returns-2 c =
-    let t = read-readable _ _ (sym (c .before .before .before .before .before .before .before .read-header .ensures) ∙ c .before .before .before .before .before .header .given .1) in
+    let t = read-readable _ _ _ (c .before .before .before .before .before .before .before .read-header .ensures) (c .before .before .before .before .before .header .given .1) in
     simp (t .0, sym (t .1), eq-eqb _ _ (c .before .before .before .if1 .left), sym (c .before .before .byte .ensures), sym (c .before .block-length .ensures), lt-leb _ _ (c .if2 .taken))
 
 sub-plan-of : tie.Need-sub-plan-of
 sub-plan-of c =
-    let t = read-readable _ _ (sym (c .before .before .before .before .before .before .before .read-header .ensures) ∙ c .before .before .before .before .before .header .given .1) in
+    let t = read-readable _ _ _ (c .before .before .before .before .before .before .before .read-header .ensures) (c .before .before .before .before .before .header .given .1) in
     let l = readable-long _ (t .0) in omega arith
 
 part-plan-of-start : tie.Need-part-plan-of-start
 part-plan-of-start c =
-    let t = read-readable _ _ (sym (c .before .before .before .before .before .before .before .read-header .ensures) ∙ c .before .before .before .before .before .header .given .1) in
+    let t = read-readable _ _ _ (c .before .before .before .before .before .before .before .read-header .ensures) (c .before .before .before .before .before .header .given .1) in
     let l = readable-long _ (t .0) in omega arith
 
 part-plan-of-end : tie.Need-part-plan-of-end
@@ -60,12 +60,12 @@ plan-of-requires c κs = search needs
 
 returns-3 : tie.Need-returns-3
 unfolding wrapperOf accepted _and_ if_then_else_
-returns-3 c = simp (not-readable _ (sym (c .before .before .read-header .ensures) ∙ c .enum-told .given .1))
+returns-3 c = simp (not-readable _ _ (c .before .before .read-header .ensures) (c .enum-told .given .1))
 
 returns-4 : tie.Need-returns-4
 unfolding wrapperOf accepted _and_ if_then_else_
 returns-4 c =
-    let t = read-readable _ _ (sym (c .before .before .before .before .before .before .before .before .before .read-header .ensures) ∙ c .before .before .before .before .before .before .before .header .given .1) in
+    let t = read-readable _ _ _ (c .before .before .before .before .before .before .before .before .before .read-header .ensures) (c .before .before .before .before .before .before .before .header .given .1) in
     simp (t .0, sym (t .1), eq-eqb _ _ (c .before .before .before .before .before .if1 .left), sym (c .before .before .before .before .byte .ensures), sym (c .before .before .before .block-length .ensures), le-leb _ _ (c .before .before .if2 .left))
     (ap (λ (p : Plan). Good (c .before .before .before .before .before .before .before .header .given .0 .0) p) (c .plan-of .ensures ∙ ap (λ (l : List ℕ). planOf l (c .before .before .before .before .before .before .before .before .before .before .before .args .blocks)) (tail-is 15 (c .before .before .before .before .before .before .before .before .before .before .before .args .packet .now))))
 

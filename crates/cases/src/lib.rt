@@ -1,6 +1,7 @@
-// The thirteen cases (BOT 6.7): what the host announces and what the device has decide what follows.
+// The thirteen cases (BOT 6.7): what the host announces and what the device has decide what follows. Nothing here knows of SCSI
+// or of wrappers.
 ghost use mathlib.Core.Path.{_≡_};
-ghost use Rattle.bot.specs.Cases.{counted, plain, phaseError, sameWay, caseOf};
+ghost use Rattle.cases.specs.Cases.{counted, plain, phaseError, sameWay, caseOf};
 
 // Data in one direction, with its number of bytes.
 pub enum Transfer {

@@ -1,11 +1,11 @@
 -- `case_of` meets its contract: each arm is a row of the table. Assumes nothing.
 use mathlib.Core.Path.{_≡_, sym, ap₂, _∙_}
-use Rattle.bot.specs.declared.cases.Transfer.{Transfer}
-use Rattle.bot.specs.declared.cases.Case.{Case}
-use Rattle.bot.specs.Cases.{counted, meeting, caseOf}
+use Rattle.cases.specs.declared.Transfer.{Transfer}
+use Rattle.cases.specs.declared.Case.{Case}
+use Rattle.cases.specs.Cases.{counted, meeting, caseOf}
 use borrow.Author.Needs.{needs}
-use Rattle.bot.proofs.cases.case_of.Statement.{statement}
-use Rattle.bot.proofs.cases.case_of.Tie as tie
+use Rattle.cases.proofs.case_of.Statement.{statement}
+use Rattle.cases.proofs.case_of.Tie as tie
 
 -- what the arm gives is the table's row of both sides
 row : (host device : Transfer) {h d x y : Transfer} {r : Case} → h ≡ counted host → h ≡ x → d ≡ counted device → d ≡ y → r ≡ meeting x y → r ≡ caseOf host device

@@ -1,10 +1,10 @@
 -- `count_of` meets its contract. Assumes nothing.
 use borrow.Author.Tests.{eq-eqb, ne-eqb}
 use Rattle.wire.specs.Choice.{if_then_else_}
-use Rattle.bot.specs.Cases.{counted}
+use Rattle.cases.specs.Cases.{counted}
 use borrow.Author.Needs.{needs}
-use Rattle.bot.proofs.cases.count_of.Statement.{statement}
-use Rattle.bot.proofs.cases.count_of.Tie as tie
+use Rattle.cases.proofs.count_of.Statement.{statement}
+use Rattle.cases.proofs.count_of.Tie as tie
 
 enum-told : tie.Need-enum-told
 enum-told c = search needs

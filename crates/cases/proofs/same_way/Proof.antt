@@ -1,10 +1,10 @@
 -- `same_way` meets its contract. Assumes nothing.
 use borrow.Author.Tests.{lt-ltb, le-ltb, eq-eqb, ne-eqb}
 use Rattle.wire.specs.Choice.{if_then_else_}
-use Rattle.bot.specs.Cases.{sameWay}
+use Rattle.cases.specs.Cases.{sameWay}
 use borrow.Author.Needs.{needs}
-use Rattle.bot.proofs.cases.same_way.Statement.{statement}
-use Rattle.bot.proofs.cases.same_way.Tie as tie
+use Rattle.cases.proofs.same_way.Statement.{statement}
+use Rattle.cases.proofs.same_way.Tie as tie
 
 plain-requires : tie.Need-plain-requires
 plain-requires c κs = search needs

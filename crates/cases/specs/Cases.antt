@@ -2,14 +2,14 @@
 use Prim.Native.Nat.{ℕ}
 use lib.Dec.{eqb, ltb}
 use Rattle.wire.specs.Choice.{if_then_else_}
-use Rattle.bot.specs.declared.cases.Transfer.{Transfer}
-use Rattle.bot.specs.declared.cases.Transfer.the-variants.{None, In, Out}
-use Rattle.bot.specs.declared.cases.Pipe.{Pipe}
-use Rattle.bot.specs.declared.cases.Pipe.the-variants as pipe
-use Rattle.bot.specs.declared.cases.Halt.{Halt}
-use Rattle.bot.specs.declared.cases.Halt.the-variants as halt
-use Rattle.bot.specs.declared.cases.Ending.the-variants.{Command, PhaseError}
-use Rattle.bot.specs.declared.cases.Case.{Case}
+use Rattle.cases.specs.declared.Transfer.{Transfer}
+use Rattle.cases.specs.declared.Transfer.the-variants.{None, In, Out}
+use Rattle.cases.specs.declared.Pipe.{Pipe}
+use Rattle.cases.specs.declared.Pipe.the-variants as pipe
+use Rattle.cases.specs.declared.Halt.{Halt}
+use Rattle.cases.specs.declared.Halt.the-variants as halt
+use Rattle.cases.specs.declared.Ending.the-variants.{Command, PhaseError}
+use Rattle.cases.specs.declared.Case.{Case}
 
 -- "status 0 or 1": the command's own; and "status 2".
 abbrev pub plain : Transfer → Halt → Case

@@ -1,0 +1,171 @@
+-- The halt after data: the claim of specs/Halts.antt. Assumes nothing.
+use Prim.Native.Nat.{ℕ, _+_, _*_, _-_, _≤_, _<_, min}
+use mathlib.Core.Path.{_≡_, refl, sym, ap, subst, _∙_}
+use mathlib.Core.Bool.{Bool, true, false, true≢false}
+use mathlib.Core.List.{List}
+use native.Mathlib.Omega.{arith}
+use lib.Dec.{leb, ltb, eqb}
+use lib.ListN.{length}
+use borrow.Author.Tests.{leb-true, leb-false, ltb-true, ltb-false, eqb-true, lt-ltb, le-ltb, eq-eqb}
+use Rattle.wire.specs.Choice.{if_then_else_}
+use Rattle.wire.proofs.Cases.{both, by-if, if-true, if-false}
+use Rattle.scsi.specs.declared.command.Plan.{Plan}
+use Rattle.scsi.specs.declared.command.Plan.the-variants.{Failed, Nothing, Reply, Read, Write}
+use Rattle.bot.specs.declared.cbw.Header.{Header}
+use Rattle.bot.specs.declared.csw.Status.the-variants.{Passed}
+use Rattle.cases.specs.Cases.{caseOf}
+use Rattle.cases.specs.Claims.{amount, isAfterData, afterData, Follows, no-data, no-match, all-in, all-out}
+use Rattle.cases.specs.declared.Case.{Case}
+use Rattle.cases.specs.declared.Halt.{Halt}
+use Rattle.cases.specs.declared.Halt.the-variants as halt
+use Rattle.cases.specs.declared.Pipe.{Pipe}
+use Rattle.machine.specs.declared.record.Stage.{Stage}
+use Rattle.machine.specs.declared.record.Stage.the-variants.{Ready, DataOut, DataIn, ReplyIn, StatusDue}
+use Rattle.machine.specs.declared.record.LogicalUnit.{LogicalUnit}
+use Rattle.machine.specs.declared.record.Task.{Task}
+use Rattle.machine.specs.declared.record.State.{State}
+use Rattle.machine.specs.declared.record.Device.{Device}
+use Rattle.machine.specs.Record.{moved}
+use Rattle.machine.specs.Fits.{taskFits, outFits, inFits}
+use Rattle.machine.specs.Outcome.{Reaction, Effect}
+use Rattle.machine.specs.Begin.{hostOf, hasOf, dataStage, firstStage, staged, begunBy, begun}
+use Rattle.machine.specs.Bulk.{onward, haltAtEnd, nextIn, handedState, handedOut, onAsk, inStage, packetIn, nextOut, storedState, storedBlock, gatheredState, gathered, onData, outStage, packetOut}
+use Rattle.machine.specs.Halts.{due, residueAtEnd, moves, isSending, isTaking, isStatusDue, GoesOn, HaltAfterData}
+use Rattle.machine.proofs.Reach.{Fit, fit-of, case-follows}
+
+-- ---- at the wrapper
+
+-- all of a command's data is due at first
+data-due : (p : Plan) (u : LogicalUnit) → due (dataStage p u) ≡ amount (hasOf p)
+unfolding due dataStage hasOf
+data-due (Failed s) u = refl
+data-due Nothing u = refl
+data-due (Reply k n) u = refl
+data-due (Read block count) u = refl
+data-due (Write block count) u = refl
+
+over : (a n : ℕ) → ltb n a ≡ ltb 0 (a - n)
+over a n = go (ltb n a) refl
+  where
+    go : (b : Bool) → ltb n a ≡ b → ltb n a ≡ ltb 0 (a - n)
+    go true e = let l = ltb-true n a e in e ∙ sym (lt-ltb 0 (a - n) (omega arith))
+    go false e = let l = ltb-false n a e in e ∙ sym (le-ltb 0 (a - n) (omega arith))
+
+after : (x : Pipe) (a n : ℕ) → isAfterData (afterData x a n) ≡ ltb n a
+unfolding isAfterData afterData
+after x a n = by-if (λ (h : Halt). isAfterData h ≡ ltb n a) (ltb n a) (halt.AfterData x) halt.None sym sym
+
+by-case : (p : Plan) (u : LogicalUnit) (a : ℕ) (c : Case) → Follows a (amount (hasOf p)) c → moves (c .moves) ≡ true
+    → isAfterData (c .halt) ≡ ltb 0 (a - due (staged (c .ending) (c .moves) p u))
+unfolding staged firstStage moves
+by-case p u a c (no-data e) q = absurd (true≢false (sym q))
+by-case p u a c (no-match e) q = absurd (true≢false (sym q))
+by-case p u a c (all-in l) q = after _ a (amount (hasOf p)) ∙ over a (amount (hasOf p)) ∙ ap (λ (n : ℕ). ltb 0 (a - n)) (sym (data-due p u))
+by-case p u a c (all-out l) q = after _ a (amount (hasOf p)) ∙ over a (amount (hasOf p)) ∙ ap (λ (n : ℕ). ltb 0 (a - n)) (sym (data-due p u))
+
+-- ---- a packet of data
+
+-- number 10: no more is due than the residue
+due-fits : (blocks : ℕ) (g : Stage) (a r : ℕ) → taskFits blocks g a r ≡ true → due g ≤ r
+unfolding due taskFits outFits inFits
+due-fits blocks Ready a r e = omega arith
+due-fits blocks (DataOut block left held) a r e = leb-true _ _ (both _ _ (both _ _ (both _ _ (both _ _ e .1) .1) .1) .0)
+due-fits blocks (DataIn place left) a r e = leb-true _ _ (both _ _ (both _ _ e .1) .0)
+due-fits blocks (ReplyIn reply place left) a r e = leb-true _ _ (both _ _ (both _ _ e .1) .0)
+due-fits blocks (StatusDue status) a r e = omega arith
+
+-- the last of the data halts a pipe that was not halted exactly if some of the announced length is left
+at-end : (r : ℕ) (before : Bool) → before ≡ false → haltAtEnd true r before ≡ ltb 0 r
+unfolding haltAtEnd
+at-end r before e = if-true true _ _ refl ∙ by-if (λ (b : Bool). b ≡ ltb 0 r) (ltb 0 r) true before sym (λ n. e ∙ sym n)
+
+module _ (s : State) where
+  abbrev now : Task
+  now = s .link .task
+
+  -- the next stage and residue, where these were the last bytes due, or more are
+  last : (r : ℕ) (before : Bool) → before ≡ false → r ≡ residueAtEnd now → (g : Stage) → due g ≡ 0
+      → GoesOn now (onward s g r) (haltAtEnd true r before)
+  last r before h e g z = record { same = let a = e in omega arith; ends = λ _. at-end r before h ∙ ap (ltb 0) e }
+
+  more : (r : ℕ) (before : Bool) (g : Stage) → r - due g ≡ residueAtEnd now → isStatusDue g ≡ false → GoesOn now (onward s g r) before
+  more r before g e n = record { same = e; ends = λ y. absurd (true≢false (sym y ∙ n)) }
+
+  handed : (left : ℕ) (g : Stage) → s .link .haltin ≡ false → due (now .stage) ≡ left → left ≤ now .residue → due g ≡ left - 64 → isStatusDue g ≡ false
+      → GoesOn now (handedState s (min 64 left) left g .link .task) (handedState s (min 64 left) left g .link .haltin)
+  unfolding handedState moved nextIn due if_then_else_
+  handed left g h e l z n = go (leb left 64) refl
+    where
+      r : ℕ
+      r = now .residue - min 64 left
+
+      go : (b : Bool) → leb left 64 ≡ b → GoesOn now (onward s (if b then StatusDue Passed else g) r) (haltAtEnd b r (s .link .haltin))
+      go true y = let k = leb-true left 64 y in last r _ h (omega arith) (StatusDue Passed) refl
+      go false y = let k = leb-false left 64 y in more r _ g (omega arith) n
+
+  stored : (block left held : ℕ) → s .link .haltout ≡ false → now .stage ≡ DataOut block left held → 0 < left → 512 * left ≤ now .residue
+      → GoesOn now (storedState s block left .link .task) (storedState s block left .link .haltout)
+  unfolding storedState moved nextOut due isStatusDue if_then_else_
+  stored block left held h e p l = go (leb left 1) refl
+    where
+      r : ℕ
+      r = now .residue - 512
+
+      d : due (now .stage) ≡ 512 * left
+      d = ap due e
+
+      go : (b : Bool) → leb left 1 ≡ b → GoesOn now (onward s (if b then StatusDue Passed else DataOut (block + 1) (left - 1) 0) r) (haltAtEnd b r (s .link .haltout))
+      go true y = let k = leb-true left 1 y in last r _ h (omega (arith, d)) (StatusDue Passed) refl
+      go false y = let k = leb-false left 1 y in more r _ (DataOut (block + 1) (left - 1) 0) (omega (arith, d)) refl
+
+-- ---- the claim
+
+module _ (d : Device) (m : List ℕ) (f : Fit (d .identity) (d .state)) where
+  abbrev s : State
+  s = d .state
+
+  fitting : due (s .link .task .stage) ≤ s .link .task .residue
+  fitting = due-fits _ _ _ _ (f .task)
+
+  abbrev InGoes : Reaction → Type 0
+  InGoes r = GoesOn (s .link .task) (r .dev .state .link .task) (r .dev .state .link .haltin)
+
+  abbrev OutGoes : Effect → Type 0
+  OutGoes r = GoesOn (s .link .task) (r .dev .state .link .task) (r .dev .state .link .haltout)
+
+  asked : (x : List ℕ) (place left : ℕ) (g : Stage) (b : List ℕ) → s .link .haltin ≡ false → due (s .link .task .stage) ≡ left → 0 < left → due g ≡ left - 64 → isStatusDue g ≡ false
+      → InGoes (onAsk d x place left g b)
+  unfolding onAsk handedOut
+  asked x place left g b h e p z n =
+      by-if InGoes (eqb left 0) _ _ (λ y. let k = eqb-true left 0 y in absurd (omega arith)) (λ _. handed s left g h e (let l = fitting in omega arith) z n)
+
+  sending : (b : List ℕ) → s .link .haltin ≡ false → (g : Stage) → s .link .task .stage ≡ g → isSending g ≡ true → InGoes (inStage g d m b)
+  unfolding inStage isSending due isStatusDue
+  sending b h Ready e q = absurd (true≢false (sym q))
+  sending b h (DataOut block left held) e q = absurd (true≢false (sym q))
+  sending b h (DataIn place left) e q = asked m place left _ b h (ap due e) (ltb-true 0 left q) refl refl
+  sending b h (ReplyIn r place left) e q = asked _ place left _ b h (ap due e) (ltb-true 0 left q) refl refl
+  sending b h (StatusDue x) e q = absurd (true≢false (sym q))
+
+  taking : (p : List ℕ) → s .link .haltout ≡ false → length p ≡ 64 → (g : Stage) → s .link .task .stage ≡ g → isTaking g ≡ true → OutGoes (outStage g d m p)
+  unfolding outStage onData gathered gatheredState moved storedBlock isTaking due isStatusDue
+  taking p h w Ready e q = absurd (true≢false (sym q))
+  taking p h w (DataOut block left held) e q =
+      let l = ltb-true 0 left q in
+      by-if OutGoes (eqb left 0) _ _ (λ y. let k = eqb-true left 0 y in absurd (omega arith))
+      (λ _. by-if OutGoes (eqb (length p) 64) _ _
+      (λ _. by-if OutGoes (ltb (held + 64) 512) _ _
+      (λ _. more s _ _ (DataOut block left (held + 64)) (ap (λ (g : Stage). s .link .task .residue - due g) (sym e)) refl)
+      (λ _. stored s block left held h e l (let k = fitting in let z : due (s .link .task .stage) ≡ 512 * left = ap due e in omega arith)))
+      (λ y. absurd (true≢false (sym (eq-eqb _ _ w) ∙ y))))
+  taking p h w (DataIn place left) e q = absurd (true≢false (sym q))
+  taking p h w (ReplyIn r place left) e q = absurd (true≢false (sym q))
+  taking p h w (StatusDue x) e q = absurd (true≢false (sym q))
+
+pub halt-after-data : HaltAfterData
+unfolding begun begunBy moved packetIn packetOut
+halt-after-data = record {
+  begins = λ h p s q. by-case p (s .unit) (h .announced) _ (case-follows h p) q;
+  sends = λ d m b f h q. subst (InGoes d m (fit-of _ _ f)) (sym (if-false _ _ _ h)) (sending d m (fit-of _ _ f) b h _ refl q);
+  takes = λ d m p f h q w. subst (OutGoes d m (fit-of _ _ f)) (sym (if-false _ _ _ h)) (taking d m (fit-of _ _ f) p h w _ refl q);
+}
