@@ -1,7 +1,6 @@
 // Runs the papers' worked values through the public functions of the leaf crates and prints what they give.
 // The file stdout was written from the papers, and the run is held to it.
 mod answer;
-mod cases;
 mod cbw;
 mod csw;
 mod descriptors;
@@ -9,6 +8,7 @@ mod plans;
 mod print;
 mod replies;
 mod requests;
+mod thirteen;
 
 fn main() {
     descriptors::run();
@@ -16,6 +16,6 @@ fn main() {
     plans::run();
     csw::run();
     cbw::run();
-    cases::run();
+    thirteen::run();
     requests::run();
 }

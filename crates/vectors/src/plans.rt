@@ -1,7 +1,9 @@
 // What a unit of 128 blocks has for a command block.
+use crate::print::bytes;
 use crate::print::end;
 use crate::print::half;
 use crate::print::hex;
+use crate::print::put_u64;
 use crate::print::text;
 use crate::print::word;
 use scsi::command::Plan;
@@ -9,6 +11,8 @@ use scsi::command::block_length;
 use scsi::command::plan_of;
 use scsi::reply::ReplyKind;
 use scsi::sense::Sense;
+use wire::fields::put_be16;
+use wire::slices::byte;
 
 fn sense(s: Sense) {
     hex(s.key);
@@ -54,79 +58,51 @@ fn show(plan: Plan) {
     }
 }
 
-fn plan(name: &[u8], block: &[u8]) {
-    text(name);
-    show(plan_of(block, 128));
+// A command block's bytes, how many of them its code needs, and the plan.
+fn planned(s: &[u8]) {
+    text(b"block");
+    bytes(s, s.len());
+    text(b": needs");
+    hex(block_length(byte(s, 0)));
+    text(b",");
+    show(plan_of(s, 128));
     end();
 }
 
-fn length(code: u8) {
-    hex(block_length(code));
+// Ten bytes, written as two numbers.
+fn block(front: u64, back: u16) {
+    let mut s = [0; 10];
+    put_u64(&mut s, front);
+    put_be16(&mut s, 8, back);
+    planned(&s);
 }
 
-fn lengths() {
-    text(b"block lengths of 00 03 12 1A 1E 25 28 2A 2F FF:");
-    length(0x00);
-    length(0x03);
-    length(0x12);
-    length(0x1A);
-    length(0x1E);
-    length(0x25);
-    length(0x28);
-    length(0x2A);
-    length(0x2F);
-    length(0xFF);
-    end();
-}
-
+// Read 127 count 1, 128 count 0, 128 count 1, FFFFFFFF count 1, 0 count 1 with flag bit 5; Write 126 count 2; Verify 0 count 128.
 fn ranges() {
-    plan(
-        b"plan of read 127 count 1:",
-        &[0x28, 0, 0, 0, 0, 0x7F, 0, 0, 1, 0],
-    );
-    plan(
-        b"plan of read 128 count 0:",
-        &[0x28, 0, 0, 0, 0, 0x80, 0, 0, 0, 0],
-    );
-    plan(
-        b"plan of read 128 count 1:",
-        &[0x28, 0, 0, 0, 0, 0x80, 0, 0, 1, 0],
-    );
-    plan(
-        b"plan of read FFFFFFFF count 1:",
-        &[0x28, 0, 0xFF, 0xFF, 0xFF, 0xFF, 0, 0, 1, 0],
-    );
-    plan(
-        b"plan of write 126 count 2:",
-        &[0x2A, 0, 0, 0, 0, 0x7E, 0, 0, 2, 0],
-    );
-    plan(
-        b"plan of read 0 count 1, flag bit 5:",
-        &[0x28, 0x20, 0, 0, 0, 0, 0, 0, 1, 0],
-    );
-    plan(
-        b"plan of verify 0 count 128:",
-        &[0x2F, 0, 0, 0, 0, 0, 0, 0, 0x80, 0],
-    );
+    block(0x2800_0000_007F_0000, 0x0100);
+    block(0x2800_0000_0080_0000, 0x0000);
+    block(0x2800_0000_0080_0000, 0x0100);
+    block(0x2800_FFFF_FFFF_0000, 0x0100);
+    block(0x2820_0000_0000_0000, 0x0100);
+    block(0x2A00_0000_007E_0000, 0x0200);
+    block(0x2F00_0000_0000_0000, 0x8000);
 }
 
+// Test Unit Ready; Prevent/Allow, allow and prevent; Inquiry of 5 and of 36 bytes, Request Sense of 18, Mode Sense of 192; Read
+// Capacity; an unknown code, in a block of one byte.
 fn others() {
-    plan(b"plan of code FF:", &[0xFF]);
-    plan(b"plan of inquiry, 5 bytes:", &[0x12, 0, 0, 0, 5, 0]);
-    plan(b"plan of inquiry, 36 bytes:", &[0x12, 0, 0, 0, 36, 0]);
-    plan(b"plan of request sense, 18 bytes:", &[0x03, 0, 0, 0, 18, 0]);
-    plan(
-        b"plan of mode sense, 192 bytes:",
-        &[0x1A, 0, 0x3F, 0, 192, 0],
-    );
-    plan(
-        b"plan of read capacity:",
-        &[0x25, 0, 0, 0, 0, 0, 0, 0, 0, 0],
-    );
+    block(0x0000_0000_0000_0000, 0x0000);
+    block(0x1E00_0000_0000_0000, 0x0000);
+    block(0x1E00_0000_0100_0000, 0x0000);
+    block(0x1200_0000_0500_0000, 0x0000);
+    block(0x1200_0000_2400_0000, 0x0000);
+    block(0x0300_0000_1200_0000, 0x0000);
+    block(0x1A00_3F00_C000_0000, 0x0000);
+    block(0x2500_0000_0000_0000, 0x0000);
+    planned(&[0xFF]);
 }
 
 pub(crate) fn run() {
-    lengths();
     ranges();
     others();
 }

@@ -56,3 +56,9 @@ pub(crate) fn line(name: &[u8], packet: Packet) {
     bytes(&held, packet.len);
     end();
 }
+
+// The eight bytes of a number, the greatest first.
+pub(crate) fn put_u64(dst: &mut [u8], x: u64) {
+    put_be32(dst, 0, (x / 0x1_0000_0000 % 0x1_0000_0000) as u32);
+    put_be32(dst, 4, (x % 0x1_0000_0000) as u32);
+}
