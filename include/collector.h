@@ -63,7 +63,7 @@ extern "C" {
 /*
  * A device's whole state. collector_make fills it, the other functions change it in place; the caller keeps it, may
  * copy it, store it and read it, and should not write to it. `address` is what the controller has to answer to: set
- * it in the hardware after an acknowledged Set Address.
+ * it in the hardware after an acknowledged Set Address, and after a bus reset, which leaves it 0.
  */
 typedef struct collector_record {
     uint64_t number;        /* the collector number */
@@ -114,7 +114,8 @@ _Static_assert(sizeof(collector_answer) == 16, "size of collector_answer");
  *   length is not noticed.
  *
  * Everything else is checked. Each function answers every input, checks in the order that is written here and
- * answers the first that fails. A refusal (10 to 15) and NAK and SILENT change nothing; a refused making is told below.
+ * answers the first that fails. A refusal (10 to 15) and NAK and SILENT change no field, block or buffer; reserved bytes are
+ * no fields, and a refused making is told below.
  * Any bytes may be handed over as a record. It is answered COLLECTOR_BAD_RECORD where it breaks document 01's rules
  * (number 10), and where flags is over 15, stage over 9, a place, left or value not 0 in a stage that does not use it,
  * or value 2^24 or more in stage 3.
