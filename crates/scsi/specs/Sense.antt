@@ -1,5 +1,5 @@
 -- Sense (SPC-3, 4.5; document 01, "Commands"): key, additional code, qualifier. Each value is named once.
-use Prim.Native.Nat.{ℕ}
+use Prim.Native.Nat.{ℕ, _<_}
 use mathlib.Core.Bool.{Bool}
 use lib.Dec.{eqb}
 use Rattle.wire.specs.Choice.{_and_}
@@ -25,3 +25,9 @@ dataPhase = sense 0x0B 0x4B 0x00
 
 unfoldable pub isNoSense : Sense → Bool
 isNoSense s = eqb (s .key) 0 and eqb (s .asc) 0 and eqb (s .ascq) 0
+
+-- The values that a sense's fields hold.
+pub record IsSense (s : Sense) : Type 0 where
+  pub key : s .key < 256
+  pub asc : s .asc < 256
+  pub ascq : s .ascq < 256
