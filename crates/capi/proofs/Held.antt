@@ -51,22 +51,22 @@ use denote.Triple.Entry.{Args, Res}
 use denote.Triple.Spec.{Meets}
 use denote.Triple.Statement.{Contract, Triple}
 use denote.Triple.Walked.{says, Stays, fitsOf, AllGo, Ending, ends-at, walkOf, walked, walk-meets}
-use Rattle.capi.specs.declared.record.Given.{Given}
-use Rattle.capi.specs.declared.record.Flat.{Flat}
-use Rattle.capi.specs.declared.record.Record.{Record}
-use Rattle.capi.specs.declared.record.Told.{Told}
-use Rattle.capi.specs.declared.record.Turn.{Turn}
-use Rattle.capi.specs.Events.{rec}
-use Rattle.capi.proofs.record.Given as G
-use Rattle.capi.proofs.record.Given.Laws as G′
-use Rattle.capi.proofs.record.Flat as F
-use Rattle.capi.proofs.record.Flat.Laws as F′
-use Rattle.capi.proofs.record.Record as R
-use Rattle.capi.proofs.record.Record.Laws as R′
-use Rattle.capi.proofs.record.Told as T
-use Rattle.capi.proofs.record.Told.Laws as T′
-use Rattle.capi.proofs.record.Turn as U
-use Rattle.capi.proofs.record.Turn.Laws as U′
+use Rattle.crecord.specs.declared.record.Given.{Given}
+use Rattle.crecord.specs.declared.record.Flat.{Flat}
+use Rattle.crecord.specs.declared.record.Record.{Record}
+use Rattle.crecord.specs.declared.record.Told.{Told}
+use Rattle.capi.specs.declared.turn.Turn.{Turn}
+use Rattle.crecord.specs.Flat.{rec}
+use Rattle.crecord.proofs.record.Given as G
+use Rattle.crecord.proofs.record.Given.Laws as G′
+use Rattle.crecord.proofs.record.Flat as F
+use Rattle.crecord.proofs.record.Flat.Laws as F′
+use Rattle.crecord.proofs.record.Record as R
+use Rattle.crecord.proofs.record.Record.Laws as R′
+use Rattle.crecord.proofs.record.Told as T
+use Rattle.crecord.proofs.record.Told.Laws as T′
+use Rattle.capi.proofs.turn.Turn as U
+use Rattle.capi.proofs.turn.Turn.Laws as U′
 
 -- ---- the record's machine value
 abbrev pub Block : RattleType

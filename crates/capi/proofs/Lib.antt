@@ -1,6 +1,6 @@
 pub mod Asked
+pub mod Calls
 pub mod Held
 pub mod Never
-pub mod RoundTrip
 pub mod Turns
 pub mod Ways

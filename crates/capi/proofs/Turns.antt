@@ -16,12 +16,12 @@ use Rattle.machine.specs.Fits.{numberFits}
 use Rattle.machine.specs.Making.{mediumServed, Made, made, make, ToldMade, toldMade}
 use Rattle.machine.specs.Machine.{Event, control, Told, out, told, step}
 use Rattle.capi.proofs.Asked.{asked}
-use Rattle.capi.proofs.RoundTrip.{round-trip}
-use Rattle.capi.specs.declared.record.Given.{Given}
-use Rattle.capi.specs.declared.record.Flat as flats
-use Rattle.capi.specs.declared.record.Told as tolds
-use Rattle.capi.specs.Flat.{decodes, stateFrom, identityFrom, flatOf, givenOf}
-use Rattle.capi.specs.Events.{answer, rec, left, leaves, lent, onRecord, leftMade, leavesMade, onMaking}
+use Rattle.crecord.proofs.RoundTrip.{round-trip}
+use Rattle.crecord.specs.declared.record.Given.{Given}
+use Rattle.crecord.specs.declared.record.Flat as flats
+use Rattle.crecord.specs.declared.record.Told as tolds
+use Rattle.crecord.specs.Flat.{decodes, stateFrom, identityFrom, flatOf, givenOf, answer, rec}
+use Rattle.capi.specs.Events.{left, leaves, lent, onRecord, leftMade, leavesMade, onMaking}
 
 made-number : (i : Identity) (m : List ℕ) → 0 < numberOf (make i m .answer)
 unfolding make

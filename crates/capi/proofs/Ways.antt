@@ -27,10 +27,10 @@ use Rattle.machine.specs.Machine.{Out, check, step, told, out, beside, unlent, 
 use Rattle.control.proofs.Lengths.{csw-long}
 use Rattle.collector.proofs.Admission.{open-in, open-out}
 use Rattle.collector.proofs.Running.{asked}
-use Rattle.capi.specs.declared.record.Given.{Given}
-use Rattle.capi.specs.declared.record.Flat as flats
-use Rattle.capi.specs.Flat.{noNumbers, formOf, flag, decodes, stateFrom, identityFrom, numbersOf, worth, flagsOf, flatWith, flatOf}
-use Rattle.capi.specs.Events.{answer, rec, left, leaves, onRecord}
+use Rattle.crecord.specs.declared.record.Given.{Given}
+use Rattle.crecord.specs.declared.record.Flat as flats
+use Rattle.crecord.specs.Flat.{noNumbers, formOf, flag, decodes, stateFrom, identityFrom, numbersOf, worth, flagsOf, flatWith, flatOf, answer, rec}
+use Rattle.capi.specs.Events.{left, leaves, onRecord}
 use Rattle.capi.specs.Ways.{Free, ReadsOn, Passes, Gathers, movedOn, ended}
 
 module _ (g : Given) (f : flats.Flat) (m : List ℕ) where

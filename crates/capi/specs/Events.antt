@@ -3,27 +3,11 @@ use Prim.Native.Nat.{ℕ}
 use mathlib.Core.List.{List, []}
 use Rattle.wire.specs.Choice.{if_then_else_}
 use Rattle.usb.specs.declared.descriptor.Identity.{Identity}
-use Rattle.machine.specs.declared.record.Device.{Device}
-use Rattle.machine.specs.Record.{device}
 use Rattle.machine.specs.Making.{ToldMade, make, toldMade}
 use Rattle.machine.specs.Machine.{Event, busReset, control, bulkOut, bulkIn, Told, told, step}
-use Rattle.capi.specs.declared.record.Given.{Given}
-use Rattle.capi.specs.declared.record.Flat as flats
-use Rattle.capi.specs.declared.record.Record.{Record}
-use Rattle.capi.specs.declared.record.Told as tolds
-use Rattle.capi.specs.Flat.{decodes, stateFrom, identityFrom, flatOf, givenOf}
-
-abbrev pub rec : Given → flats.Flat → List ℕ → Record
-rec g f p = record { given = g; flat = f; part = p }
-
-abbrev pub deviceFrom : Record → Device
-deviceFrom r = device (identityFrom (r .given)) (stateFrom (r .flat)) (r .part)
-
-abbrev pub recordOf : Device → Record
-recordOf d = rec (givenOf (d .identity)) (flatOf (d .state)) (d .part)
-
-abbrev pub answer : ℕ → ℕ → tolds.Told
-answer n k = record { number = n; count = k }
+use Rattle.crecord.specs.declared.record.Record.{Record}
+use Rattle.crecord.specs.declared.record.Told as tolds
+use Rattle.crecord.specs.Flat.{decodes, deviceFrom, recordOf, answer}
 
 -- All that a call leaves.
 pub record Left : Type 0 where

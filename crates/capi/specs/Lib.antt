@@ -1,4 +1,3 @@
-pub mod Flat
 pub mod Events
+pub mod Calls
 pub mod Ways
-pub mod Claims

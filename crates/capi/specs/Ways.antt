@@ -4,8 +4,8 @@ use Prim.Native.Nat.{ℕ, _*_, _≤_, _<_}
 use mathlib.Core.Path.{_≡_}
 use mathlib.Core.Bool.{true}
 use Rattle.machine.specs.Fits.{sizeFits, numberFits, outFits, inFits}
-use Rattle.capi.specs.declared.record.Given.{Given}
-use Rattle.capi.specs.declared.record.Flat as flats
+use Rattle.crecord.specs.declared.record.Given.{Given}
+use Rattle.crecord.specs.declared.record.Flat as flats
 
 -- A configured device, no pipe halted, over its medium.
 pub record Free (g : Given) (f : flats.Flat) (medium : ℕ) : Type 0 where

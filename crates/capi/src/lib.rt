@@ -6,19 +6,16 @@ ghost use mathlib.Core.List.{List, []};
 ghost use Rattle.machine.specs.Machine.{busReset, bulkOut, bulkIn};
 ghost use Rattle.machine.specs.Machine as machines;
 ghost use Rattle.capi.specs.Events.{left, onRecord, leftMade, onMaking};
-use crate::record::Given;
-use crate::record::Record;
-use crate::record::Told;
 use crate::turn::turn_control;
 use crate::turn::turn_in;
 use crate::turn::turn_make;
 use crate::turn::turn_out;
 use crate::turn::turn_reset;
+use crecord::record::Given;
+use crecord::record::Record;
+use crecord::record::Told;
 
-mod decode;
-mod encode;
 mod quick;
-pub mod record;
 mod turn;
 
 // A collector of these numbers over the medium; a refused making leaves a record of zeros.

@@ -4,24 +4,12 @@ ghost use mathlib.Core.List.{List, []};
 ghost use Prim.Native.Nat.{ℕ};
 ghost use Rattle.machine.specs.Machine.{busReset, bulkOut, bulkIn};
 ghost use Rattle.machine.specs.Machine as machines;
-ghost use Rattle.capi.specs.Flat.{identityFrom};
+ghost use Rattle.crecord.specs.Flat.{identityFrom, answer, rec};
 ghost use Rattle.capi.specs.Ways.{movedOn, ended};
-ghost use Rattle.capi.specs.Events.{answer, rec, left, onRecord, leftMade, onMaking};
-use crate::decode::decodes;
-use crate::decode::identity_from;
-use crate::decode::state_from;
-use crate::encode::flat_of;
-use crate::encode::given_of;
-use crate::encode::told;
+ghost use Rattle.capi.specs.Events.{left, onRecord, leftMade, onMaking};
 use crate::quick::gathers;
 use crate::quick::passes;
 use crate::quick::reads_on;
-use crate::record::Flat;
-use crate::record::Given;
-use crate::record::MadeTurn;
-use crate::record::Record;
-use crate::record::Told;
-use crate::record::Turn;
 use bot::csw::Csw;
 use bot::csw::Status;
 use bot::csw::csw_bytes;
@@ -31,7 +19,28 @@ use collector::parts::control_parts;
 use collector::parts::in_parts;
 use collector::parts::out_parts;
 use collector::parts::reset_parts;
+use crecord::decode::decodes;
+use crecord::decode::identity_from;
+use crecord::decode::state_from;
+use crecord::encode::flat_of;
+use crecord::encode::given_of;
+use crecord::encode::told;
+use crecord::record::Flat;
+use crecord::record::Given;
+use crecord::record::Record;
+use crecord::record::Told;
 use wire::slices::put;
+
+// What an event leaves, but for the part block, which it is lent.
+pub(crate) struct Turn {
+    pub(crate) told: Told,
+    pub(crate) flat: Flat,
+}
+
+pub(crate) struct MadeTurn {
+    pub(crate) told: Told,
+    pub(crate) record: Record,
+}
 
 // Numbers that stand for no record.
 fn undecoded(flat: Flat) -> Turn

@@ -31,20 +31,20 @@ use denote.Struct.Laws as LL
 use denote.Triple.Spec.{tripleOf}
 use denote.Triple.Statement.{Contract, Triple}
 use denote.Triple.Table.{entered, cited}
-use Rattle.capi.specs.Flat.{identityFrom}
+use Rattle.crecord.specs.Flat.{identityFrom}
 use Rattle.capi.specs.Events.{leftMade, onMaking}
-use Rattle.capi.specs.declared.record.Given.{Given}
-use Rattle.capi.specs.declared.record.Record.{Record}
-use Rattle.capi.specs.declared.record.MadeTurn.{MadeTurn}
+use Rattle.crecord.specs.declared.record.Given.{Given}
+use Rattle.crecord.specs.declared.record.Record.{Record}
+use Rattle.capi.specs.declared.turn.MadeTurn.{MadeTurn}
 use Rattle.capi.proofs.Held.{given-val, told-val, spells, parts-of, ptr-val, Held, opens-record, closes-record, bytes-val, calls-for, free-at, ended, Walk, ends, meets-by}
-use Rattle.capi.proofs.record.Given as G
-use Rattle.capi.proofs.record.Given.Laws as G′
-use Rattle.capi.proofs.record.Record as R
-use Rattle.capi.proofs.record.Record.Laws as R′
-use Rattle.capi.proofs.record.Told as T
-use Rattle.capi.proofs.record.Told.Laws as T′
-use Rattle.capi.proofs.record.MadeTurn as U
-use Rattle.capi.proofs.record.MadeTurn.Laws as U′
+use Rattle.crecord.proofs.record.Given as G
+use Rattle.crecord.proofs.record.Given.Laws as G′
+use Rattle.crecord.proofs.record.Record as R
+use Rattle.crecord.proofs.record.Record.Laws as R′
+use Rattle.crecord.proofs.record.Told as T
+use Rattle.crecord.proofs.record.Told.Laws as T′
+use Rattle.capi.proofs.turn.MadeTurn as U
+use Rattle.capi.proofs.turn.MadeTurn.Laws as U′
 use Rattle.capi.proofs.turn.turn_make as turn-make
 use Rattle.capi.proofs.turn.turn_make.Symbol as turn-make-def
 use Rattle.capi.proofs.turn.turn_make.Symbol.{name as #turn-make}

@@ -1,0 +1,204 @@
+-- The claim of specs/Claims.antt: state and numbers, there and back. Assumes nothing.
+use Prim.Native.Nat.{ℕ, _+_, _*_, _/_, _%_, _^_, _≤_, _<_}
+use mathlib.Core.Path.{_≡_, refl, sym, ap}
+use mathlib.Core.Bool.{Bool, true, false}
+use mathlib.Core.List.{List, [], _∷_}
+use native.Mathlib.Omega.{arith}
+use lib.Dec.{eqb, ltb}
+use borrow.Author.Tests.{eqb-true, eqb-false, le-leb, leb-true, lt-ltb, ltb-true}
+use Rattle.wire.specs.Choice.{if_then_else_, _and_, Row, look}
+use Rattle.wire.specs.Bits.{bits}
+use Rattle.wire.specs.Numbers.{value}
+use Rattle.wire.proofs.Cases.{both, and-true, by-if}
+use Rattle.scsi.specs.Sense.{IsSense}
+use Rattle.scsi.specs.declared.sense.Sense.{Sense}
+use Rattle.scsi.specs.declared.reply.Reply.the-variants as reply
+use Rattle.bot.specs.declared.csw.Status.the-variants.{Passed, Failed, PhaseError}
+use Rattle.machine.specs.declared.record.Stage.{Stage}
+use Rattle.machine.specs.declared.record.Stage.the-variants.{Ready, DataOut, DataIn, ReplyIn, StatusDue}
+use Rattle.machine.specs.declared.record.State.{State}
+use Rattle.machine.specs.Record.{task, link, state}
+use Rattle.crecord.specs.declared.record.Flat as flats
+use Rattle.crecord.specs.Flat.{senseNumber, senseFrom, Form, noNumbers, forms, noForm, formOf, flag, decodes, stateFrom}
+use Rattle.crecord.specs.Flat.{Numbers, numbersOf, worth, flagsOf, flatWith, flatOf}
+use Rattle.crecord.specs.Claims.{IsState, RoundTrip}
+
+-- ---- the flags
+
+-- a flag in the place n is n times a bit
+worth-bit : (on : Bool) (n : ℕ) → (worth on n ≡ n * worth on 1) × (worth on 1 ≤ 1)
+unfolding worth if_then_else_
+worth-bit true n = (omega arith, omega arith)
+worth-bit false n = (omega arith, omega arith)
+
+bit-back : (on : Bool) (x : ℕ) → x ≡ worth on 1 → eqb x 1 ≡ on
+unfolding worth if_then_else_
+bit-back true x e = simp e
+bit-back false x e = simp e
+
+bit-again : (n x : ℕ) → x < 2 → worth (eqb x 1) n ≡ n * x
+unfolding worth
+bit-again n x h =
+    by-if (λ (w : ℕ). w ≡ n * x) (eqb x 1) n 0
+    (λ e. let z : x ≡ 1 = eqb-true x 1 e in rw z (omega arith))
+    (λ e. let z = eqb-false x 1 e in let y : x ≡ 0 = omega arith in rw y (omega arith))
+
+record FlagsBack (s : State) : Type 0 where
+  small : flagsOf s ≤ 15
+  configured : flag 0 (flagsOf s) ≡ s .configured
+  haltin : flag 1 (flagsOf s) ≡ s .link .haltin
+  haltout : flag 2 (flagsOf s) ≡ s .link .haltout
+  locked : flag 3 (flagsOf s) ≡ s .link .locked
+
+flags-back : (s : State) → FlagsBack s
+unfolding flag flagsOf bits
+flags-back s =
+    let c = worth-bit (s .configured) 1 in
+    let i = worth-bit (s .link .haltin) 2 in
+    let o = worth-bit (s .link .haltout) 4 in
+    let k = worth-bit (s .link .locked) 8 in
+    record {
+      small = omega arith;
+      configured = bit-back _ (flagsOf s / 1 % 2) (omega arith);
+      haltin = bit-back _ (flagsOf s / 2 % 2) (omega arith);
+      haltout = bit-back _ (flagsOf s / 4 % 2) (omega arith);
+      locked = bit-back _ (flagsOf s / 8 % 2) (omega arith);
+    }
+
+flags-again : (x : ℕ) → x ≤ 15 → worth (flag 0 x) 1 + worth (flag 1 x) 2 + worth (flag 2 x) 4 + worth (flag 3 x) 8 ≡ x
+unfolding flag bits
+flags-again x h =
+    let a = bit-again 1 (x / 1 % 2) (omega arith) in
+    let b = bit-again 2 (x / 2 % 2) (omega arith) in
+    let c = bit-again 4 (x / 4 % 2) (omega arith) in
+    let d = bit-again 8 (x / 8 % 2) (omega arith) in
+    let half : x / 2 ≡ 2 * (x / 4) + x / 2 % 2 = omega arith in
+    let quarter : x / 4 ≡ 2 * (x / 8) + x / 4 % 2 = omega arith in
+    let eighth : x / 8 % 2 ≡ x / 8 = omega arith in
+    omega arith
+
+-- ---- a reply's sense
+
+sense-small : (s : Sense) → IsSense s → senseNumber s < 256 ^ 3
+unfolding senseNumber value
+sense-small s ok = omega arith
+
+sense-back : (s : Sense) → IsSense s → senseFrom (senseNumber s) ≡ s
+unfolding senseFrom senseNumber value
+sense-back s ok = λ i. record { key = key i; asc = asc i; ascq = ascq i }
+  where
+    key : senseNumber s % 256 ≡ s .key
+    key = omega arith
+
+    asc : senseNumber s / 256 % 256 ≡ s .asc
+    asc = omega arith
+
+    ascq : senseNumber s / 256 ^ 2 % 256 ≡ s .ascq
+    ascq = omega arith
+
+sense-again : (v : ℕ) → v < 256 ^ 3 → senseNumber (senseFrom v) ≡ v
+unfolding senseFrom senseNumber value
+sense-again v h = omega arith
+
+-- ---- the stage
+
+abbrev ReadAs : Stage → Numbers → Type 0
+ReadAs g n =
+    (formOf (n .stage) .has (n .place) (n .left) (n .value) ≡ true)
+    × (formOf (n .stage) .stage (n .place) (n .left) (n .value) ≡ g)
+
+stage-back : (g : Stage) → ((n : Sense) (place left : ℕ) → g ≡ ReplyIn (reply.Sense n) place left → IsSense n) → ReadAs g (numbersOf g)
+unfolding numbersOf formOf look if_then_else_ noNumbers _and_
+stage-back Ready ok = (refl, refl)
+stage-back (DataOut block left held) ok = (refl, refl)
+stage-back (DataIn place left) ok = (refl, refl)
+stage-back (ReplyIn (reply.Sense s) place left) ok =
+    let b = ok s place left refl in
+    (lt-ltb _ _ (sense-small s b), ap (λ (r : Sense). ReplyIn (reply.Sense r) place left) (sense-back s b))
+stage-back (ReplyIn reply.Inquiry place left) ok = (refl, refl)
+stage-back (ReplyIn reply.ModeSense place left) ok = (refl, refl)
+stage-back (ReplyIn (reply.Capacity n) place left) ok = (refl, refl)
+stage-back (StatusDue Passed) ok = (refl, refl)
+stage-back (StatusDue Failed) ok = (refl, refl)
+stage-back (StatusDue PhaseError) ok = (refl, refl)
+
+-- what holds of each row's entry where the number is its key, and of the other value, holds of what is found
+abbrev Keyed : {A : Type 0} → (A → Type 0) → ℕ → List (Row A) → Type 0
+Keyed P x [] = Unit {0}
+Keyed P x (r ∷ rs) = (x ≡ r .key → P (r .entry)) × Keyed P x rs
+
+look-keyed : {A : Type 0} (P : A → Type 0) (rs : List (Row A)) (x : ℕ) (other : A) → Keyed P x rs → P other → P (look rs x other)
+unfolding look
+look-keyed P [] x other h o = o
+look-keyed P (r ∷ rs) x other h o =
+    by-if P (eqb x (r .key)) (r .entry) (look rs x other) (λ e. h .0 (eqb-true _ _ e)) (λ _. look-keyed P rs x other (h .1) o)
+
+abbrev numbers : ℕ → ℕ → ℕ → ℕ → Numbers
+numbers n p l v = record { stage = n; place = p; left = l; value = v }
+
+stage-again : (n p l v : ℕ) → formOf n .has p l v ≡ true → numbersOf (formOf n .stage p l v) ≡ numbers n p l v
+unfolding formOf numbersOf noNumbers
+stage-again n p l v =
+    look-keyed P forms n noForm
+    (no-transfer, (whole, (no-value, (sense, (no-value, (no-value, (whole, (no-transfer, (no-transfer, (no-transfer, tt))))))))))
+    (λ h. let z : _≡_ {A = ℕ} 0 1 = cc in absurd (omega arith))
+  where
+    P : Form → Type 0
+    P f = f .has p l v ≡ true → numbersOf (f .stage p l v) ≡ numbers n p l v
+
+    at : {k w : ℕ} → n ≡ k → w ≡ v → numbers k p l w ≡ numbers n p l v
+    at e c = λ i. numbers (sym e i) p l (c i)
+
+    whole : {k : ℕ} → n ≡ k → true ≡ true → numbers k p l v ≡ numbers n p l v
+    whole e h = at e refl
+
+    no-value : {k : ℕ} → n ≡ k → eqb v 0 ≡ true → numbers k p l 0 ≡ numbers n p l v
+    no-value e h = at e (sym (eqb-true v 0 h))
+
+    sense : n ≡ 3 → ltb v (256 ^ 3) ≡ true → numbers 3 p l (senseNumber (senseFrom v)) ≡ numbers n p l v
+    sense e h = at e (sense-again v (ltb-true _ _ h))
+
+    no-transfer : {k : ℕ} → n ≡ k → noNumbers p l v ≡ true → numbers k 0 0 0 ≡ numbers n p l v
+    no-transfer e h =
+        let a = both _ _ h in
+        let b = both _ _ (a .1) in
+        λ i. numbers (sym e i) (sym (eqb-true p 0 (a .0)) i) (sym (eqb-true l 0 (b .0)) i) (sym (eqb-true v 0 (b .1)) i)
+
+-- ---- the whole state
+
+written-decodes : (s : State) → IsState s → decodes (flatOf s) ≡ true
+unfolding decodes flatOf flatWith
+written-decodes s ok = and-true _ _ (le-leb _ _ (flags-back s .small)) (stage-back (s .link .task .stage) ok .0)
+
+written-is-read : (s : State) → IsState s → stateFrom (flatOf s) ≡ s
+unfolding stateFrom flatOf flatWith
+written-is-read s ok =
+    let f = flags-back s in
+    let t = s .link .task in
+    let g = stage-back (t .stage) ok .1 in
+    λ i. state (s .address) (f .configured i) (s .unit) (link (f .haltin i) (f .haltout i) (f .locked i) (task (g i) (t .tag) (t .announced) (t .residue)))
+
+read-is-written : (f : flats.Flat) → decodes f ≡ true → flatOf (stateFrom f) ≡ f
+unfolding decodes stateFrom flatOf flatWith flagsOf
+read-is-written f h =
+    let d = both _ _ h in
+    let b = flags-again (f .flags) (leb-true _ _ (d .0)) in
+    let n = stage-again (f .stage) (f .place) (f .left) (f .value) (d .1) in
+    λ i. record {
+      residue = f .residue;
+      place = n i .place;
+      left = n i .left;
+      value = n i .value;
+      tag = f .tag;
+      announced = f .announced;
+      blocks = f .blocks;
+      stage = n i .stage;
+      flags = b i;
+      address = f .address;
+      key = f .key;
+      asc = f .asc;
+      ascq = f .ascq;
+    }
+
+pub round-trip : RoundTrip
+round-trip = record { written-decodes = written-decodes; written-is-read = written-is-read; read-is-written = read-is-written }

@@ -1,0 +1,89 @@
+-- `stage_decodes` meets its contract: an arm is the table's row. Assumes nothing.
+use Prim.Native.Nat.{ℕ}
+use mathlib.Core.Path.{_≡_, sym, ap, _∙_}
+use borrow.Author.Needs.{needs}
+use Rattle.wire.specs.Choice.{if_then_else_, look}
+use Rattle.wire.proofs.Cases.{look-rest}
+use Rattle.crecord.specs.Flat.{forms, noForm, formOf}
+use Rattle.crecord.proofs.decode.stage_decodes.Statement.{statement}
+use Rattle.crecord.proofs.decode.stage_decodes.Tie as tie
+
+-- what the row of a known number asks of three numbers
+at-stage : (k n p l v : ℕ) → n ≡ k → formOf k .has p l v ≡ formOf n .has p l v
+at-stage k n p l v e = ap (λ (j : ℕ). formOf j .has p l v) (sym e)
+
+no-numbers-requires : tie.Need-no-numbers-requires
+no-numbers-requires c κs = search needs
+
+no-numbers-requires-2 : tie.Need-no-numbers-requires-2
+no-numbers-requires-2 c κs = search needs
+
+no-numbers-requires-3 : tie.Need-no-numbers-requires-3
+no-numbers-requires-3 c κs = search needs
+
+no-numbers-requires-4 : tie.Need-no-numbers-requires-4
+no-numbers-requires-4 c κs = search needs
+
+returns : tie.Need-returns
+unfolding formOf look if_then_else_
+returns c = c .no-numbers .ensures ∙ at-stage 0 _ _ _ _ (c .before .match .keys1)
+
+returns-2 : tie.Need-returns-2
+unfolding formOf look if_then_else_
+returns-2 c = at-stage 1 _ _ _ _ (c .match .keys2)
+
+returns-3 : tie.Need-returns-3
+unfolding formOf look if_then_else_
+returns-3 c = at-stage 2 _ _ _ _ (c .match .keys3)
+
+returns-4 : tie.Need-returns-4
+unfolding formOf look if_then_else_
+returns-4 c = at-stage 3 _ _ _ _ (c .match .keys4)
+
+returns-5 : tie.Need-returns-5
+unfolding formOf look if_then_else_
+returns-5 c = at-stage 4 _ _ _ _ (c .match .keys5)
+
+returns-6 : tie.Need-returns-6
+unfolding formOf look if_then_else_
+returns-6 c = at-stage 5 _ _ _ _ (c .match .keys6)
+
+returns-7 : tie.Need-returns-7
+unfolding formOf look if_then_else_
+returns-7 c = at-stage 6 _ _ _ _ (c .match .keys7)
+
+returns-8 : tie.Need-returns-8
+unfolding formOf look if_then_else_
+returns-8 c = c .no-numbers2 .ensures ∙ at-stage 7 _ _ _ _ (c .before .match .keys8)
+
+returns-9 : tie.Need-returns-9
+unfolding formOf look if_then_else_
+returns-9 c = c .no-numbers3 .ensures ∙ at-stage 8 _ _ _ _ (c .before .match .keys9)
+
+returns-10 : tie.Need-returns-10
+unfolding formOf look if_then_else_
+returns-10 c = c .no-numbers4 .ensures ∙ at-stage 9 _ _ _ _ (c .before .match .keys10)
+
+returns-11 : tie.Need-returns-11
+unfolding formOf if_then_else_
+returns-11 c = simp (look-rest (c .before .args .flat .stage) Unit forms noForm (c .match .rest))
+
+pub stage-decodes-spec : {M : Type 1} → statement M
+stage-decodes-spec =
+    tie.close
+    (tie.spec
+    no-numbers-requires
+    no-numbers-requires-2
+    no-numbers-requires-3
+    no-numbers-requires-4
+    returns
+    returns-2
+    returns-3
+    returns-4
+    returns-5
+    returns-6
+    returns-7
+    returns-8
+    returns-9
+    returns-10
+    returns-11)

@@ -1,0 +1,150 @@
+-- The record as C holds it, numbers alone, and the device's state that they stand for. include/collector.h says the same in words.
+use Prim.Native.Nat.{ℕ, _+_, _/_, _%_, _^_}
+use mathlib.Core.Bool.{Bool, true, false}
+use mathlib.Core.List.{List, [], _∷_}
+use lib.Dec.{eqb, leb, ltb}
+use Rattle.wire.specs.Choice.{if_then_else_, _and_, Row, row, look}
+use Rattle.wire.specs.Bits.{bits}
+use Rattle.wire.specs.Numbers.{little}
+use Rattle.scsi.specs.declared.sense.Sense.{Sense}
+use Rattle.scsi.specs.declared.reply.Reply.the-variants as reply
+use Rattle.bot.specs.declared.csw.Status.the-variants.{Passed, Failed, PhaseError}
+use Rattle.usb.specs.declared.descriptor.Identity.{Identity}
+use Rattle.machine.specs.declared.record.Stage.{Stage}
+use Rattle.machine.specs.declared.record.Stage.the-variants.{Ready, DataOut, DataIn, ReplyIn, StatusDue}
+use Rattle.machine.specs.declared.record.State.{State}
+use Rattle.machine.specs.declared.record.Device.{Device}
+use Rattle.machine.specs.Record.{unit, task, link, state, device}
+use Rattle.crecord.specs.declared.record.Given.{Given}
+use Rattle.crecord.specs.declared.record.Flat as flats
+use Rattle.crecord.specs.declared.record.Record.{Record}
+use Rattle.crecord.specs.declared.record.Told as tolds
+
+-- ---- the stage: a number, and what place, left and value mean under it
+
+-- A sense as one number, its key in the lowest byte.
+unfoldable pub senseNumber : Sense → ℕ
+senseNumber s = little (s .key ∷ s .asc ∷ s .ascq ∷ [])
+
+unfoldable pub senseFrom : ℕ → Sense
+senseFrom v = record { key = v % 256; asc = v / 256 % 256; ascq = v / 256 ^ 2 % 256 }
+
+-- Of a stage's number: which place, left and value stand for something, and for which stage.
+pub record Form : Type 0 where
+  pub has : ℕ → ℕ → ℕ → Bool
+  pub stage : ℕ → ℕ → ℕ → Stage
+
+abbrev pub form : (ℕ → ℕ → ℕ → Bool) → (ℕ → ℕ → ℕ → Stage) → Form
+form h s = record { has = h; stage = s }
+
+-- Without a transfer there are no numbers; most transfers have no third.
+unfoldable pub noNumbers : ℕ → ℕ → ℕ → Bool
+noNumbers place left value = eqb place 0 and eqb left 0 and eqb value 0
+
+abbrev pub forms : List (Row Form)
+forms =
+    row 0 (form noNumbers (λ place left value. Ready))
+    ∷ row 1 (form (λ place left value. true) (λ place left value. DataOut place left value))
+    ∷ row 2 (form (λ place left value. eqb value 0) (λ place left value. DataIn place left))
+    ∷ row 3 (form (λ place left value. ltb value (256 ^ 3)) (λ place left value. ReplyIn (reply.Sense (senseFrom value)) place left))
+    ∷ row 4 (form (λ place left value. eqb value 0) (λ place left value. ReplyIn reply.Inquiry place left))
+    ∷ row 5 (form (λ place left value. eqb value 0) (λ place left value. ReplyIn reply.ModeSense place left))
+    ∷ row 6 (form (λ place left value. true) (λ place left value. ReplyIn (reply.Capacity value) place left))
+    ∷ row 7 (form noNumbers (λ place left value. StatusDue Passed))
+    ∷ row 8 (form noNumbers (λ place left value. StatusDue Failed))
+    ∷ row 9 (form noNumbers (λ place left value. StatusDue PhaseError))
+    ∷ []
+
+abbrev pub noForm : Form
+noForm = form (λ place left value. false) (λ place left value. Ready)
+
+unfoldable pub formOf : ℕ → Form
+formOf n = look forms n noForm
+
+-- ---- reading: a record whose numbers stand for nothing is number 10
+
+-- Bit n of the flags: configured, bulk-in halted, bulk-out halted, locked.
+unfoldable pub flag : ℕ → ℕ → Bool
+flag n flags = eqb (bits n n flags) 1
+
+unfoldable pub decodes : flats.Flat → Bool
+decodes f = leb (f .flags) 15 and formOf (f .stage) .has (f .place) (f .left) (f .value)
+
+unfoldable pub stateFrom : flats.Flat → State
+stateFrom f =
+    state (f .address) (flag 0 (f .flags))
+    (unit (f .blocks) (record { key = f .key; asc = f .asc; ascq = f .ascq }))
+    (link (flag 1 (f .flags)) (flag 2 (f .flags)) (flag 3 (f .flags))
+    (task (formOf (f .stage) .stage (f .place) (f .left) (f .value)) (f .tag) (f .announced) (f .residue)))
+
+abbrev pub identityFrom : Given → Identity
+identityFrom g = record { number = g .number; vendor = g .vendor; product = g .product; release = g .release }
+
+-- ---- writing
+
+pub record Numbers : Type 0 where
+  pub stage : ℕ
+  pub place : ℕ
+  pub left : ℕ
+  pub value : ℕ
+
+abbrev numbers : ℕ → ℕ → ℕ → ℕ → Numbers
+numbers n p l v = record { stage = n; place = p; left = l; value = v }
+
+unfoldable pub numbersOf : Stage → Numbers
+numbersOf Ready = numbers 0 0 0 0
+numbersOf (DataOut block left held) = numbers 1 block left held
+numbersOf (DataIn place left) = numbers 2 place left 0
+numbersOf (ReplyIn (reply.Sense s) place left) = numbers 3 place left (senseNumber s)
+numbersOf (ReplyIn reply.Inquiry place left) = numbers 4 place left 0
+numbersOf (ReplyIn reply.ModeSense place left) = numbers 5 place left 0
+numbersOf (ReplyIn (reply.Capacity n) place left) = numbers 6 place left n
+numbersOf (StatusDue Passed) = numbers 7 0 0 0
+numbersOf (StatusDue Failed) = numbers 8 0 0 0
+numbersOf (StatusDue PhaseError) = numbers 9 0 0 0
+
+unfoldable pub worth : Bool → ℕ → ℕ
+worth on n = if on then n else 0
+
+unfoldable pub flagsOf : State → ℕ
+flagsOf s = worth (s .configured) 1 + worth (s .link .haltin) 2 + worth (s .link .haltout) 4 + worth (s .link .locked) 8
+
+unfoldable pub flatWith : State → Numbers → flats.Flat
+flatWith s n =
+    record {
+      residue = s .link .task .residue;
+      place = n .place;
+      left = n .left;
+      value = n .value;
+      tag = s .link .task .tag;
+      announced = s .link .task .announced;
+      blocks = s .unit .blocks;
+      stage = n .stage;
+      flags = flagsOf s;
+      address = s .address;
+      key = s .unit .sense .key;
+      asc = s .unit .sense .asc;
+      ascq = s .unit .sense .ascq;
+    }
+
+unfoldable pub flatOf : State → flats.Flat
+flatOf s = flatWith s (numbersOf (s .link .task .stage))
+
+abbrev pub givenOf : Identity → Given
+givenOf i = record { number = i .number; vendor = i .vendor; product = i .product; release = i .release }
+
+-- ---- the whole record
+
+abbrev pub rec : Given → flats.Flat → List ℕ → Record
+rec g f p = record { given = g; flat = f; part = p }
+
+abbrev pub deviceFrom : Record → Device
+deviceFrom r = device (identityFrom (r .given)) (stateFrom (r .flat)) (r .part)
+
+abbrev pub recordOf : Device → Record
+recordOf d = rec (givenOf (d .identity)) (flatOf (d .state)) (d .part)
+
+-- ---- an answer: document 01's number, and the count of bytes that data has
+
+abbrev pub answer : ℕ → ℕ → tolds.Told
+answer n k = record { number = n; count = k }

@@ -1,0 +1,159 @@
+// From the numbers that C holds to the device's state.
+ghost use mathlib.Core.Path.{_≡_};
+ghost use Rattle.crecord.specs.Flat.{noNumbers, formOf, decodes, senseFrom, stateFrom, identityFrom};
+use crate::record::Flat;
+use crate::record::Given;
+use bot::csw::Status;
+use machine::record::Link;
+use machine::record::LogicalUnit;
+use machine::record::Stage;
+use machine::record::State;
+use machine::record::Task;
+use scsi::reply::Reply;
+use scsi::sense::Sense;
+use usb::descriptor::Identity;
+
+// A stage without a transfer has no numbers.
+fn no_numbers(place: u32, left: u32, value: u32) -> bool
+    ensures { λ r. ⌜ r ≡ noNumbers place left value ⌝ }
+{
+    if place != 0 {
+        return false;
+    }
+    if left != 0 {
+        return false;
+    }
+    value == 0
+}
+
+fn stage_decodes(flat: Flat) -> bool
+    ensures { λ r. ⌜ r ≡ formOf (flat .stage) .has (flat .place) (flat .left) (flat .value) ⌝ }
+{
+    let stage = flat.stage;
+    let place = flat.place;
+    let left = flat.left;
+    let value = flat.value;
+    match stage {
+        0 => no_numbers(place, left, value),
+        1 => true,
+        2 => value == 0,
+        3 => value < 0x1000000,
+        4 => value == 0,
+        5 => value == 0,
+        6 => true,
+        7 => no_numbers(place, left, value),
+        8 => no_numbers(place, left, value),
+        9 => no_numbers(place, left, value),
+        _ => false,
+    }
+}
+
+pub fn decodes(flat: Flat) -> bool
+    ensures { λ r. ⌜ r ≡ decodes flat ⌝ }
+{
+    let flags = flat.flags;
+    if 15 < flags {
+        return false;
+    }
+    stage_decodes(flat)
+}
+
+// A reply's sense stands in one number, its key in the lowest byte.
+fn sense_from(value: u32) -> Sense
+    ensures { λ r. ⌜ r ≡ senseFrom value ⌝ }
+{
+    Sense {
+        key: (value % 256) as u8,
+        asc: (value / 256 % 256) as u8,
+        ascq: (value / 65536 % 256) as u8,
+    }
+}
+
+fn stage_from(flat: Flat) -> Stage
+    ensures { λ r. ⌜ r ≡ formOf (flat .stage) .stage (flat .place) (flat .left) (flat .value) ⌝ }
+{
+    let stage = flat.stage;
+    let place = flat.place;
+    let left = flat.left;
+    let value = flat.value;
+    match stage {
+        0 => Stage::Ready,
+        1 => Stage::DataOut {
+            block: place,
+            left,
+            held: value,
+        },
+        2 => Stage::DataIn { place, left },
+        3 => Stage::ReplyIn {
+            reply: Reply::Sense(sense_from(value)),
+            place,
+            left,
+        },
+        4 => Stage::ReplyIn {
+            reply: Reply::Inquiry,
+            place,
+            left,
+        },
+        5 => Stage::ReplyIn {
+            reply: Reply::ModeSense,
+            place,
+            left,
+        },
+        6 => Stage::ReplyIn {
+            reply: Reply::Capacity { blocks: value },
+            place,
+            left,
+        },
+        7 => Stage::StatusDue {
+            status: Status::Passed,
+        },
+        8 => Stage::StatusDue {
+            status: Status::Failed,
+        },
+        9 => Stage::StatusDue {
+            status: Status::PhaseError,
+        },
+        _ => Stage::Ready,
+    }
+}
+
+pub fn state_from(flat: Flat) -> State
+    ensures { λ r. ⌜ r ≡ stateFrom flat ⌝ }
+{
+    let flags = flat.flags;
+    let stage = stage_from(flat);
+    State {
+        address: flat.address,
+        configured: flags % 2 == 1,
+        unit: LogicalUnit {
+            blocks: flat.blocks,
+            sense: Sense {
+                key: flat.key,
+                asc: flat.asc,
+                ascq: flat.ascq,
+            },
+        },
+        link: Link {
+            haltin: flags / 2 % 2 == 1,
+            haltout: flags / 4 % 2 == 1,
+            locked: flags / 8 % 2 == 1,
+            task: Task {
+                stage,
+                tag: flat.tag,
+                announced: flat.announced,
+                residue: flat.residue,
+            },
+        },
+    }
+}
+
+pub fn identity_from(given: Given) -> Identity
+    ensures { λ r. ⌜ r ≡ identityFrom given ⌝ }
+{
+    Identity {
+        number: given.number,
+        vendor: given.vendor,
+        product: given.product,
+        release: given.release,
+    }
+}

@@ -1,0 +1,142 @@
+// From the device's state and answers to the numbers that C holds.
+ghost use mathlib.Core.Path.{_≡_};
+ghost use Rattle.machine.specs.Answer.{refusalNumber, numberOf, countOf};
+ghost use Rattle.crecord.specs.Flat.{senseNumber, worth, flagsOf, flatWith, flatOf, givenOf, answer};
+use crate::record::Flat;
+use crate::record::Given;
+use crate::record::Told;
+use bot::csw::Status;
+use machine::answer::Answer;
+use machine::answer::Refusal;
+use machine::record::Stage;
+use machine::record::State;
+use scsi::reply::Reply;
+use scsi::sense::Sense;
+use usb::descriptor::Identity;
+
+fn sense_number(sense: Sense) -> u32
+    ensures { λ r. ⌜ r ≡ senseNumber sense ⌝ }
+{
+    (sense.key as u32) + 256 * ((sense.asc as u32) + 256 * (sense.ascq as u32))
+}
+
+fn worth(on: bool, value: u8) -> u8
+    ensures { λ r. ⌜ r ≡ worth on value ⌝ }
+{
+    if on {
+        return value;
+    }
+    0
+}
+
+fn flags_of(state: State) -> u8
+    ensures { λ r. ⌜ r ≡ flagsOf state ⌝ }
+{
+    let link = state.link;
+    worth(state.configured, 1)
+        + worth(link.haltin, 2)
+        + worth(link.haltout, 4)
+        + worth(link.locked, 8)
+}
+
+// The stage comes as its number and the three that it gives a meaning.
+fn flat_with(state: State, stage: u8, place: u32, left: u32, value: u32) -> Flat
+    ensures { λ r. ⌜ r ≡ flatWith state (record { stage = stage; place = place; left = left; value = value }) ⌝ }
+{
+    let unit = state.unit;
+    let link = state.link;
+    let sense = unit.sense;
+    let task = link.task;
+    let flags = flags_of(state);
+    Flat {
+        residue: task.residue,
+        place,
+        left,
+        value,
+        tag: task.tag,
+        announced: task.announced,
+        blocks: unit.blocks,
+        stage,
+        flags,
+        address: state.address,
+        key: sense.key,
+        asc: sense.asc,
+        ascq: sense.ascq,
+    }
+}
+
+pub fn flat_of(state: State) -> Flat
+    ensures { λ r. ⌜ r ≡ flatOf state ⌝ }
+{
+    let link = state.link;
+    let task = link.task;
+    let stage = task.stage;
+    match stage {
+        Stage::Ready => flat_with(state, 0, 0, 0, 0),
+        Stage::DataOut { block, left, held } => flat_with(state, 1, block, left, held),
+        Stage::DataIn { place, left } => flat_with(state, 2, place, left, 0),
+        Stage::ReplyIn { reply, place, left } => match reply {
+            Reply::Sense(sense) => flat_with(state, 3, place, left, sense_number(sense)),
+            Reply::Inquiry => flat_with(state, 4, place, left, 0),
+            Reply::ModeSense => flat_with(state, 5, place, left, 0),
+            Reply::Capacity { blocks } => flat_with(state, 6, place, left, blocks),
+        },
+        Stage::StatusDue { status } => match status {
+            Status::Passed => flat_with(state, 7, 0, 0, 0),
+            Status::Failed => flat_with(state, 8, 0, 0, 0),
+            Status::PhaseError => flat_with(state, 9, 0, 0, 0),
+        },
+    }
+}
+
+pub fn given_of(identity: Identity) -> Given
+    ensures { λ r. ⌜ r ≡ givenOf identity ⌝ }
+{
+    Given {
+        number: identity.number,
+        vendor: identity.vendor,
+        product: identity.product,
+        release: identity.release,
+    }
+}
+
+fn refusal_number(why: Refusal) -> u32
+    ensures { λ r. ⌜ r ≡ refusalNumber why ⌝ }
+{
+    match why {
+        Refusal::Record => 10,
+        Refusal::Medium => 11,
+        Refusal::Buffer => 12,
+        Refusal::Packet => 13,
+        Refusal::Setup => 14,
+        Refusal::Number => 15,
+    }
+}
+
+pub fn told(ending: Answer) -> Told
+    ensures { λ r. ⌜ r ≡ answer (numberOf ending) (countOf ending) ⌝ }
+{
+    match ending {
+        Answer::Data { count } => Told { number: 0, count },
+        Answer::Ack => Told {
+            number: 1,
+            count: 0,
+        },
+        Answer::Nak => Told {
+            number: 2,
+            count: 0,
+        },
+        Answer::Stall => Told {
+            number: 3,
+            count: 0,
+        },
+        Answer::Silent => Told {
+            number: 4,
+            count: 0,
+        },
+        Answer::Refused { why } => Told {
+            number: refusal_number(why),
+            count: 0,
+        },
+    }
+}
