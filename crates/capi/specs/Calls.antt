@@ -4,6 +4,7 @@ use Prim.Native.Nat.{ℕ}
 use mathlib.Core.Path.{_≡_}
 use mathlib.Core.Bool.{true}
 use mathlib.Core.List.{List, [], _∷_}
+use Rattle.machine.specs.declared.answer.Answer.{Answer}
 use Rattle.machine.specs.Answer.{numberOf, countOf}
 use Rattle.machine.specs.Machine.{Event, Run}
 use Rattle.machine.specs.Machine as machines
@@ -52,9 +53,11 @@ asCalls r = record { replies = byNumber (r .replies); rec = recordOf (r .dev); m
 -- C sees the machine's run, and the numbers that it holds stand for the machine's record.
 pub record RunByCalls (k : Making) (es : List Event) : Type 0 where
   pub sees : called k es ≡ asCalls (lived k es)
-  pub decodes : decodes (called k es .rec .flat) ≡ true
+  pub valid : decodes (called k es .rec .flat) ≡ true
   pub holds : deviceFrom (called k es .rec) ≡ lived k es .dev
 
--- Of every making, a refused one too, and every list of events: so at each moment.
-unfoldable pub CallsRun : Type 0
-CallsRun = (k : Making) (es : List Event) → RunByCalls k es
+-- Of every making, a refused one too, and every list of events: so at each moment. An answer is known by its number and count, so what demand 3 says of answers
+-- is said of what C sees.
+pub record CallsRun : Type 0 where
+  pub runs : (k : Making) (es : List Event) → RunByCalls k es
+  pub answers : (a b : Answer) → numberOf a ≡ numberOf b → countOf a ≡ countOf b → a ≡ b

@@ -10,6 +10,7 @@ use Rattle.machine.specs.declared.record.State.{State}
 use Rattle.crecord.specs.declared.record.Flat as flats
 use Rattle.crecord.specs.Flat.{decodes, stateFrom, flatOf}
 
+-- A reply's sense is of bytes. Every state that a collector reaches is such a one (machine/proofs/Senses.antt).
 abbrev pub IsState : State → Type 0
 IsState s = (n : Sense) (place left : ℕ) → s .link .task .stage ≡ ReplyIn (reply.Sense n) place left → IsSense n
 

@@ -9,6 +9,7 @@ pub mod Lock
 pub mod Demand
 pub mod Reach
 pub mod Halts
+pub mod Requests
 pub mod Senses
 pub mod StepLaws
 pub mod Beside

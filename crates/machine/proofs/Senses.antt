@@ -1,5 +1,6 @@
 -- Every sense that a record holds, the unit's and one that a reply found, is of bytes, whatever the events. Assumes nothing.
 use Prim.Native.Nat.{ℕ}
+use mathlib.Core.Path.{sym, subst}
 use mathlib.Core.Bool.{Bool}
 use mathlib.Core.List.{List, []}
 use Rattle.wire.proofs.Cases.{by-if}
@@ -11,7 +12,7 @@ use Rattle.scsi.specs.declared.reply.ReplyKind.the-variants as kind
 use Rattle.scsi.specs.declared.reply.Reply as replies
 use Rattle.scsi.specs.declared.reply.Reply.the-variants as reply
 use Rattle.scsi.specs.declared.sense.Sense.{Sense}
-use Rattle.scsi.proofs.Senses.{no-sense, data-phase, FailsByBytes, plan-fails}
+use Rattle.scsi.proofs.Senses.{no-sense, data-phase, SenseFits, sense-fits}
 use Rattle.bot.specs.declared.cases.Transfer.{Transfer}
 use Rattle.bot.specs.declared.cases.Transfer.the-variants.{None, In, Out}
 use Rattle.bot.specs.declared.cases.Ending.{Ending}
@@ -20,11 +21,6 @@ use Rattle.bot.specs.declared.csw.Status.{Status}
 use Rattle.bot.specs.declared.csw.Status.the-variants as status
 use Rattle.usb.specs.Request.{requestOf}
 use Rattle.usb.specs.declared.descriptor.Identity.{Identity}
-use Rattle.usb.specs.declared.request.Endpoint.{Endpoint}
-use Rattle.usb.specs.declared.request.Endpoint.the-variants.{Control, BulkIn, BulkOut}
-use Rattle.usb.specs.declared.request.Request.{Request}
-use Rattle.usb.specs.declared.request.Request.the-variants.{SetAddress, SetConfiguration, GetConfiguration, GetDeviceStatus, GetInterfaceStatus, GetEndpointStatus, ClearHalt, SetHalt, MassStorageReset, GetMaxLun, GetDescriptor}
-use Rattle.usb.specs.declared.request.Request.the-variants as request
 use Rattle.machine.specs.declared.record.Stage.{Stage}
 use Rattle.machine.specs.declared.record.Stage.the-variants.{Ready, DataOut, DataIn, ReplyIn, StatusDue}
 use Rattle.machine.specs.declared.record.Task.{Task}
@@ -34,11 +30,11 @@ use Rattle.machine.specs.declared.record.Device.{Device}
 use Rattle.machine.specs.declared.wrapper.Wrapper.{Wrapper}
 use Rattle.machine.specs.declared.wrapper.Wrapper.the-variants.{Broken, Good}
 use Rattle.machine.specs.declared.answer.Answer.the-variants.{Ack}
-use Rattle.machine.specs.Record.{fresh, noDevice, withHalts, droppedState, dropped, withAddress, moved}
+use Rattle.machine.specs.Record.{fresh, noDevice, withHalts, droppedState, dropped, moved}
 use Rattle.machine.specs.Making.{Made, mediumServed, make}
 use Rattle.machine.specs.Fits.{numberFits}
 use Rattle.machine.specs.Outcome.{Reaction, reacts, Effect}
-use Rattle.machine.specs.Control.{reset, needsConfigured, endpointStatus, haltIn, haltOut, clearHalt, setHalt, perform}
+use Rattle.machine.specs.Control.{reset, perform}
 use Rattle.machine.specs.Wrapper.{accepted, wrapperOf}
 use Rattle.machine.specs.Begin.{senseOf, replyOf, dataStage, firstStage, sensed, staged, begunBy, begun}
 use Rattle.machine.specs.Bulk.{lockedState, onWrapper, cutShort, gathered, nextOut, storedBlock, onData, outStage, packetOut, handedOut, onAsk, afterStatus, onStatus, inStage, packetIn, cutState, gatheredState, handedState, nextIn, storedState}
@@ -47,6 +43,7 @@ use Rattle.machine.specs.Tally.{Making}
 use Rattle.machine.specs.Claim.{lived}
 use Rattle.machine.proofs.Along.{along}
 use Rattle.machine.proofs.Judge.{judge}
+use Rattle.machine.proofs.Requests.{Did, answered, changed, drops, performs}
 
 abbrev ReplySense : replies.Reply → Type 0
 ReplySense (reply.Sense s) = IsSense s
@@ -67,7 +64,7 @@ pub record Senses (s : State) : Type 0 where
 
 -- ---- an accepted wrapper
 
-plan-sense : (p : Plan) → FailsByBytes p → IsSense (senseOf p)
+plan-sense : (p : Plan) → SenseFits p → IsSense (senseOf p)
 unfolding senseOf
 plan-sense (Failed s) h = h
 plan-sense Nothing h = no-sense
@@ -97,24 +94,24 @@ first-sense ending.Command (In n) p u h = data-sense p u h
 first-sense ending.Command (Out n) p u h = data-sense p u h
 first-sense ending.PhaseError t p u h = tt
 
-sensed-sense : (e : Ending) (p : Plan) (found : Sense) → FailsByBytes p → IsSense found → IsSense (sensed e p found)
+sensed-sense : (e : Ending) (p : Plan) (found : Sense) → SenseFits p → IsSense found → IsSense (sensed e p found)
 unfolding sensed
 sensed-sense ending.Command p found f h = plan-sense p f
 sensed-sense ending.PhaseError p found f h = h
 
 abbrev WrapperSense : Wrapper → Type 0
 WrapperSense Broken = Unit {0}
-WrapperSense (Good h p) = FailsByBytes p
+WrapperSense (Good h p) = SenseFits p
 
 wrapper-sense : (n : ℕ) (p : List ℕ) → WrapperSense (wrapperOf n p)
 unfolding wrapperOf
-wrapper-sense n p = by-if WrapperSense (accepted p) _ _ (λ _. plan-fails _ n) (λ _. tt)
+wrapper-sense n p = by-if WrapperSense (accepted p) _ _ (λ _. sense-fits _ n) (λ _. tt)
 
 -- ---- each way of changing the record
 
-drops : (s : State) (a : ℕ) (c hi ho : Bool) → Senses (droppedState s a c hi ho)
+dropped-senses : (s : State) (a : ℕ) (c hi ho : Bool) → Senses (droppedState s a c hi ho)
 unfolding droppedState
-drops s a c hi ho = record { unit = no-sense; stage = tt }
+dropped-senses s a c hi ho = record { unit = no-sense; stage = tt }
 
 moves : (s : State) (sn : Sense) (hi ho : Bool) (t : Task) → IsSense sn → StageSense (t .stage) → Senses (moved s sn hi ho t)
 unfolding moved
@@ -137,42 +134,11 @@ module _ (d : Device) (m : List ℕ) (h : Senses (d .state)) where
   Left r = Senses (r .dev .state)
 
   module _ (b : List ℕ) where
-    if-configured : (r : Reaction) → Kept r → Kept (needsConfigured d b r)
-    unfolding needsConfigured
-    if-configured r g = by-if Kept (s .configured) r _ (λ _. g) (λ _. h)
-
-    statuses : (e : Endpoint) → Kept (endpointStatus e d b)
-    unfolding endpointStatus
-    statuses Control = h
-    statuses BulkIn = if-configured _ h
-    statuses BulkOut = if-configured _ h
-
-    clears : (e : Endpoint) → Kept (clearHalt e d b)
-    unfolding clearHalt haltIn haltOut
-    clears Control = h
-    clears BulkIn = if-configured _ (halts s _ _ _ h)
-    clears BulkOut = if-configured _ (halts s _ _ _ h)
-
-    sets : (e : Endpoint) → Kept (setHalt e d b)
-    unfolding setHalt haltIn haltOut
-    sets Control = h
-    sets BulkIn = if-configured _ (halts s _ _ _ h)
-    sets BulkOut = if-configured _ (halts s _ _ _ h)
-
-    performs : (q : Request) → Kept (perform q d b)
-    unfolding perform dropped withAddress
-    performs (SetAddress a) = by-if Kept (s .configured) _ _ (λ _. h) (λ _. record { unit = h .unit; stage = h .stage })
-    performs (SetConfiguration v) = drops s _ _ _ _
-    performs GetConfiguration = h
-    performs GetDeviceStatus = h
-    performs GetInterfaceStatus = if-configured _ h
-    performs (GetEndpointStatus e) = statuses e
-    performs (ClearHalt e) = clears e
-    performs (SetHalt e) = sets e
-    performs MassStorageReset = if-configured _ (drops s _ _ _ _)
-    performs GetMaxLun = if-configured _ h
-    performs (GetDescriptor which n) = h
-    performs request.Stall = h
+    requests : (r : Reaction) → Did d b r → Kept r
+    unfolding dropped
+    requests r (answered a x) = h
+    requests r (changed g u t) = record { unit = subst (λ (x : LogicalUnit). IsSense (x .sense)) (sym u) (h .unit); stage = subst (λ (x : Task). StageSense (x .stage)) (sym t) (h .stage) }
+    requests r (drops a c hi ho) = dropped-senses s a c hi ho
 
     asks : (x : List ℕ) (place left : ℕ) (more : Stage) → StageSense more → Kept (onAsk d x place left more b)
     unfolding onAsk handedOut handedState nextIn
@@ -213,16 +179,16 @@ module _ (d : Device) (m : List ℕ) (h : Senses (d .state)) where
     outs (ReplyIn r place left) = h
     outs (StatusDue x) = h
 
-  pub stay-senses : (e : Event) → Senses (step d m e .dev .state)
+  pub keeps-senses : (e : Event) → Senses (step d m e .dev .state)
   unfolding step onReset onControl onBulkOut onBulkIn judged judgedOut packetOut packetIn reset dropped
-  stay-senses busReset =
-      judge (λ (v : Verdict). Kept (judged v d [] (reacts Ack (reset d) []))) d resetInputs (λ a x. h) (λ _. drops s _ _ _ _)
-  stay-senses (control q b) =
-      judge (λ (v : Verdict). Kept (judged v d b (perform (requestOf q) d b))) d (controlInputs q b) (λ a x. h) (λ _. performs b (requestOf q))
-  stay-senses (bulkOut p) =
+  keeps-senses busReset =
+      judge (λ (v : Verdict). Kept (judged v d [] (reacts Ack (reset d) []))) d resetInputs (λ a x. h) (λ _. dropped-senses s _ _ _ _)
+  keeps-senses (control q b) =
+      judge (λ (v : Verdict). Kept (judged v d b (perform (requestOf q) d b))) d (controlInputs q b) (λ a x. h) (λ _. requests b _ (performs d b (requestOf q)))
+  keeps-senses (bulkOut p) =
       judge (λ (v : Verdict). Left (judgedOut v d m (packetOut d m p))) d (outInputs m p) (λ a x. h)
       (λ _. by-if Left (s .link .haltout) _ _ (λ _. h) (λ _. outs p (s .link .task .stage)))
-  stay-senses (bulkIn b) =
+  keeps-senses (bulkIn b) =
       judge (λ (v : Verdict). Kept (judged v d b (packetIn d m b))) d (inInputs m b) (λ a x. h)
       (λ _. by-if Kept (s .link .haltin) _ _ (λ _. h) (λ _. ins b (s .link .task .stage) (h .stage)))
 
@@ -242,4 +208,4 @@ made-senses i m = by-if Fine (mediumServed m) _ _ (λ _. by-if Fine (numberFits 
 pub lived-senses : (k : Making) (es : List Event) → Senses (lived k es .dev .state)
 unfolding lived
 lived-senses k es =
-    along (λ (l : Unit {0}) e a. l) (λ l d m. Senses (d .state)) (λ l d m e h. stay-senses d m h e) tt _ (k .medium) es (made-senses (k .identity) (k .medium))
+    along (λ (l : Unit {0}) e a. l) (λ l d m. Senses (d .state)) (λ l d m e h. keeps-senses d m h e) tt _ (k .medium) es (made-senses (k .identity) (k .medium))

@@ -1,4 +1,4 @@
--- A command fails with a sense of bytes. Assumes nothing.
+-- The sense that a command fails with is of bytes. Assumes nothing.
 use Prim.Native.Nat.{ℕ}
 use mathlib.Core.List.{List}
 use native.Mathlib.Omega.{arith}
@@ -29,34 +29,34 @@ data-phase = record { key = omega arith; asc = omega arith; ascq = omega arith }
 
 -- ---- of a plan
 
-abbrev pub FailsByBytes : Plan → Type 0
-FailsByBytes (Failed s) = IsSense s
-FailsByBytes Nothing = Unit {0}
-FailsByBytes (Reply k n) = Unit {0}
-FailsByBytes (Read block count) = Unit {0}
-FailsByBytes (Write block count) = Unit {0}
+abbrev pub SenseFits : Plan → Type 0
+SenseFits (Failed s) = IsSense s
+SenseFits Nothing = Unit {0}
+SenseFits (Reply k n) = Unit {0}
+SenseFits (Read block count) = Unit {0}
+SenseFits (Write block count) = Unit {0}
 
-abbrev Fails : Command → Type 0
-Fails c = (blocks : ℕ) (b : List ℕ) → FailsByBytes (c .has blocks b)
+abbrev Fitting : Command → Type 0
+Fitting c = (blocks : ℕ) (b : List ℕ) → SenseFits (c .has blocks b)
 
 none : (n : ℕ) (b : List ℕ) → Unit {0}
 none n b = tt
 
-cuts : (k : ReplyKind) (size n : ℕ) (b : List ℕ) → FailsByBytes (cut k size b)
+cuts : (k : ReplyKind) (size n : ℕ) (b : List ℕ) → SenseFits (cut k size b)
 unfolding cut
-cuts k size n b = by-if FailsByBytes _ _ _ (λ _. tt) (λ _. tt)
+cuts k size n b = by-if SenseFits _ _ _ (λ _. tt) (λ _. tt)
 
-ranges : (p : List ℕ → Plan) → ((b : List ℕ) → FailsByBytes (p b)) → (n : ℕ) (b : List ℕ) → FailsByBytes (within n b (p b))
+ranges : (p : List ℕ → Plan) → ((b : List ℕ) → SenseFits (p b)) → (n : ℕ) (b : List ℕ) → SenseFits (within n b (p b))
 unfolding within
-ranges p h n b = by-if FailsByBytes _ (p b) _ (λ _. h b) (λ _. out-of-range)
+ranges p h n b = by-if SenseFits _ (p b) _ (λ _. h b) (λ _. out-of-range)
 
-every-row : (code : ℕ) → Fails (commandOf code)
+every-row : (code : ℕ) → Fitting (commandOf code)
 unfolding commandOf commands
 every-row code =
-    look-all Fails _ code unknown
+    look-all Fitting _ code unknown
     (none, (cuts _ _, (cuts _ _, (cuts _ _, (none, (none, (ranges _ (λ _. tt), (ranges _ (λ _. tt), (ranges _ (λ _. tt), tt)))))))))
     (λ n b. invalid-code)
 
-pub plan-fails : (b : List ℕ) (blocks : ℕ) → FailsByBytes (planOf b blocks)
+pub sense-fits : (b : List ℕ) (blocks : ℕ) → SenseFits (planOf b blocks)
 unfolding planOf planBy
-plan-fails b blocks = by-if FailsByBytes _ _ _ (λ _. every-row (byteAt b 0) blocks b) (λ _. invalid-field)
+sense-fits b blocks = by-if SenseFits _ _ _ (λ _. every-row (byteAt b 0) blocks b) (λ _. invalid-field)
