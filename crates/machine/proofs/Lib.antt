@@ -1,5 +1,7 @@
 pub mod Along
 pub mod Judge
+pub mod Requests
+pub mod Senses
 pub mod Fill
 pub mod Grant
 pub mod Sim
@@ -9,8 +11,6 @@ pub mod Lock
 pub mod Demand
 pub mod Reach
 pub mod Halts
-pub mod Requests
-pub mod Senses
 pub mod StepLaws
 pub mod Beside
 pub mod Compute
