@@ -155,7 +155,7 @@ module _ (d : Device) (m : List ℕ) (f : Fit (d .identity) (d .state)) where
       by-if OutGoes (eqb left 0) _ _ (λ y. let k = eqb-true left 0 y in absurd (omega arith))
       (λ _. by-if OutGoes (eqb (length p) 64) _ _
       (λ _. by-if OutGoes (ltb (held + 64) 512) _ _
-      (λ _. more s _ _ (DataOut block left (held + 64)) (ap (λ (g : Stage). s .link .task .residue - due g) (sym e)) refl)
+      (λ _. more s (s .link .task .residue) (s .link .haltout) (DataOut block left (held + 64)) (ap (λ (g : Stage). s .link .task .residue - due g) (sym e)) refl)
       (λ _. stored s block left held h e l (let k = fitting in let z : due (s .link .task .stage) ≡ 512 * left = ap due e in omega arith)))
       (λ y. absurd (true≢false (sym (eq-eqb _ _ w) ∙ y))))
   taking p h w (DataIn place left) e q = absurd (true≢false (sym q))

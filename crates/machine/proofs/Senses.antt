@@ -13,10 +13,10 @@ use Rattle.scsi.specs.declared.reply.Reply as replies
 use Rattle.scsi.specs.declared.reply.Reply.the-variants as reply
 use Rattle.scsi.specs.declared.sense.Sense.{Sense}
 use Rattle.scsi.proofs.Senses.{no-sense, data-phase, SenseFits, sense-fits}
-use Rattle.bot.specs.declared.cases.Transfer.{Transfer}
-use Rattle.bot.specs.declared.cases.Transfer.the-variants.{None, In, Out}
-use Rattle.bot.specs.declared.cases.Ending.{Ending}
-use Rattle.bot.specs.declared.cases.Ending.the-variants as ending
+use Rattle.cases.specs.declared.Transfer.{Transfer}
+use Rattle.cases.specs.declared.Transfer.the-variants.{None, In, Out}
+use Rattle.cases.specs.declared.Ending.{Ending}
+use Rattle.cases.specs.declared.Ending.the-variants as ending
 use Rattle.bot.specs.declared.csw.Status.{Status}
 use Rattle.bot.specs.declared.csw.Status.the-variants as status
 use Rattle.usb.specs.Request.{requestOf}
