@@ -1,9 +1,9 @@
 // The bench: reads a recording from standard input, plays it, writes what is printed to standard output.
 use libc::STDIN_FILENO;
 use libc::STDOUT_FILENO;
-use recording::player::MEDIUM;
-use recording::player::ROOM;
-use recording::player::play;
+use player::play::MEDIUM;
+use player::play::ROOM;
+use player::play::play;
 
 fn main() {
     // One byte more than a recording may have, so that a longer input is seen to be longer.

@@ -9,14 +9,15 @@ use lib.Dec.{leb, eqb}
 use lib.ListN.{length, take, drop, getD, length-drop}
 use lib.Seq.{getD-drop, drop-drop}
 use borrow.Author.Tests.{le-leb, lt-leb, leb-true, leb-false, eq-eqb, ne-eqb, eqb-true, eqb-false}
-use Rattle.wire.specs.Choice.{_and_}
+use Rattle.wire.specs.Choice.{if_then_else_, _and_}
 use Rattle.wire.specs.Slices.{byteAt, bytesAt}
 use Rattle.wire.specs.Numbers.{little}
 use Rattle.wire.proofs.Cases.{if-true, if-false, by-if, both, and-true, and-false}
 use Rattle.recording.specs.declared.cursor.Reading.{Reading}
-use Rattle.recording.specs.declared.cursor.Kind.the-variants.{Malformed}
+use Rattle.recording.specs.declared.cursor.Kind.{Kind}
+use Rattle.recording.specs.declared.cursor.Kind.the-variants.{Reset, Control, Out, Ask, Malformed}
 use Rattle.recording.specs.Format.{kindOf, kindIn, lengthIn, isKind, formed, eventOf, eventsIn}
-use Rattle.recording.specs.Cursor.{reading, readAt}
+use Rattle.recording.specs.Cursor.{reading, readAt, kindNumber, Numbered, numbered}
 
 pub bytes-drop : (n i e : ℕ) (s : List ℕ) → bytesAt n i (drop e s) ≡ bytesAt n (e + i) s
 unfolding bytesAt
@@ -53,6 +54,29 @@ found s e b k l n x y z h i =
     ∙ sym
     (read-yes s e b h (rw z at i)
     ∙ (λ j. reading (kind-place s e j) (length-place s e j) (e + 4) (b + length-place s e j)))
+
+-- ---- a reading is told by its number
+
+abbrev kindFrom : ℕ → Kind
+kindFrom n = if eqb n 1 then Reset else (if eqb n 2 then Control else (if eqb n 3 then Out else (if eqb n 4 then Ask else Malformed)))
+
+kind-back : (k : Kind) → kindFrom (kindNumber k) ≡ k
+unfolding if_then_else_
+kind-back Reset = refl
+kind-back Control = refl
+kind-back Out = refl
+kind-back Ask = refl
+kind-back Malformed = refl
+
+abbrev readingFrom : Numbered → Reading
+readingFrom t = reading (kindFrom (t .kind)) (t .len) (t .entry) (t .body)
+
+reading-back : (r : Reading) → readingFrom (numbered r) ≡ r
+unfolding numbered
+reading-back r = ap (λ (k : Kind). reading k (r .len) (r .entry) (r .body)) (kind-back (r .kind))
+
+pub same-reading : (r t : Reading) → numbered r ≡ numbered t → r ≡ t
+same-reading r t e = sym (reading-back r) ∙ ap readingFrom e ∙ reading-back t
 
 -- ---- the first event at a place, and the rest from the next place on
 

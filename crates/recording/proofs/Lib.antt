@@ -1,6 +1,3 @@
 pub mod Cursors
-pub mod Writes
-pub mod Answers
-pub mod Playing
+pub mod Parses
 pub mod Recordings
-pub mod Room

@@ -1,7 +1,3 @@
 pub mod Format
 pub mod Cursor
-pub mod Writing
-pub mod Print
-pub mod Turns
-pub mod Player
 pub mod Claims

@@ -2,7 +2,7 @@
 // in the table of contents and where its body starts.
 ghost use mathlib.Core.Path.{_≡_};
 ghost use Rattle.recording.specs.Format.{kindOf};
-ghost use Rattle.recording.specs.Cursor.{reading, readAt};
+ghost use Rattle.recording.specs.Cursor.{reading, readAt, numbered};
 use wire::fields::le16;
 use wire::slices::byte;
 
@@ -71,7 +71,7 @@ fn stopped(entry: usize, body: usize) -> Reading
 }
 
 pub fn read_at(s: &[u8], entry: usize, body: usize) -> Reading
-    ensures { λ r. ⌜ r ≡ readAt (now (s .entry)) entry body ⌝ }
+    ensures { λ r. ⌜ numbered r ≡ numbered (readAt (now (s .entry)) entry body) ⌝ }
 {
     if s.len() < 4 {
         return stopped(entry, body);

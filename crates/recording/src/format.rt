@@ -4,11 +4,11 @@ ghost use Prim.Native.Nat.{_+_, _*_, _≤_};
 ghost use lib.ListN.{length, drop};
 ghost use Rattle.recording.specs.Format.{isKind, formed, isFormed, countOf};
 use crate::cursor::Kind;
-use crate::head::read;
+use crate::cursor::read_at;
 use wire::fields::le16;
 
 // Whether an event was read.
-pub(crate) fn is_kind(kind: Kind) -> bool
+fn is_kind(kind: Kind) -> bool
     ensures { λ r. ⌜ r ≡ isKind kind ⌝ }
 {
     match kind {
@@ -29,7 +29,7 @@ fn entries_formed(s: &[u8], count: usize) -> bool
     let mut entry = 2;
     let mut body = 2 + 4 * count;
     while 0 < left {
-        let r = read(s, entry, body);
+        let r = read_at(s, entry, body);
         let kind = r.kind;
         if !is_kind(kind) {
             return false;
@@ -42,13 +42,13 @@ fn entries_formed(s: &[u8], count: usize) -> bool
 }
 
 // How many events a recording says that it has.
-pub(crate) fn count_of(s: &[u8]) -> usize
+pub fn count_of(s: &[u8]) -> usize
     ensures { λ r. ⌜ r ≡ countOf (now (s .entry)) ⌝ }
 {
     le16(s, 0) as usize
 }
 
-pub(crate) fn is_formed(s: &[u8]) -> bool
+pub fn is_formed(s: &[u8]) -> bool
     ensures { λ r. ⌜ r ≡ isFormed (now (s .entry)) ⌝ }
 {
     if s.len() < 2 {

@@ -1,6 +1,6 @@
 // The reading head: a recording and a place in it. Its functions take it apart and call the plain cursor reader.
 ghost use mathlib.Core.Path.{_≡_};
-ghost use Rattle.recording.specs.Cursor.{readAt};
+ghost use Rattle.recording.specs.Cursor.{readAt, numbered};
 use crate::cursor::Reading;
 use crate::cursor::read_at;
 
@@ -23,7 +23,7 @@ pub fn new<'a>(recording: &'a [u8], entry: usize, body: usize) -> Head<'a>
 
 // The event under the head, and the next place.
 pub fn next<'a>(h: Head<'a>) -> Reading
-    ensures { λ r. ⌜ r ≡ readAt (now (h .entry .recording)) (h .entry .entry) (h .entry .body) ⌝ }
+    ensures { λ r. ⌜ numbered r ≡ numbered (readAt (now (h .entry .recording)) (h .entry .entry) (h .entry .body)) ⌝ }
 {
     read_at(h.recording, h.entry, h.body)
 }
@@ -42,7 +42,7 @@ pub fn advanced<'a>(h: Head<'a>) -> Head<'a>
 
 // Plain parameters, for callers that need no walk.
 pub fn read(s: &[u8], entry: usize, body: usize) -> Reading
-    ensures { λ r. ⌜ r ≡ readAt (now (s .entry)) entry body ⌝ }
+    ensures { λ r. ⌜ numbered r ≡ numbered (readAt (now (s .entry)) entry body) ⌝ }
 {
     next(new(s, entry, body))
 }

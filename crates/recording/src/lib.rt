@@ -1,8 +1,4 @@
-// Recordings of events: the format, a reading head over one, and the player, which runs a recording on a fresh collector
-// and writes what a person reads.
+// Recordings of events: the format, a plain reader of one, and a reading head that keeps its place in one.
 pub mod cursor;
-mod format;
+pub mod format;
 pub mod head;
-pub mod player;
-mod print;
-mod turns;

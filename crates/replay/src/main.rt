@@ -2,10 +2,10 @@
 // played over 128 blocks, as document 01's bench sheet asks; all others as the bench plays them.
 ghost use Rattle.io.specs.Counts.{Counts};
 use libc::STDOUT_FILENO;
-use recording::player::MEDIUM;
-use recording::player::ROOM;
-use recording::player::play;
-use recording::player::play_over;
+use player::play::MEDIUM;
+use player::play::ROOM;
+use player::play::play;
+use player::play::play_over;
 
 // A file that cannot be read counts as empty.
 fn load(name: &[u8], input: &mut [u8; 16385]) -> usize

@@ -1,7 +1,7 @@
 -- `on_the_bench` meets its contract: what the player writes lies within its buffer. Assumes nothing.
 use mathlib.Core.Path.{sym}
 use lib.Seq.{length-take-le}
-use Rattle.recording.proofs.Playing.{within-text}
+use Rattle.player.proofs.Playing.{within-text}
 use borrow.Author.Needs.{needs}
 use Rattle.replay.proofs.on_the_bench.Statement.{statement}
 use Rattle.replay.proofs.on_the_bench.Tie as tie

@@ -1,7 +1,7 @@
 -- `over_128_blocks` meets its contract: what the player writes lies within its buffer. Assumes nothing.
 use mathlib.Core.Path.{sym}
 use lib.Seq.{length-take-le}
-use Rattle.recording.proofs.Playing.{within-text}
+use Rattle.player.proofs.Playing.{within-text}
 use borrow.Author.Needs.{needs}
 use Rattle.replay.proofs.over_128_blocks.Statement.{statement}
 use Rattle.replay.proofs.over_128_blocks.Tie as tie

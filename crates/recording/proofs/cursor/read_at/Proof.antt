@@ -4,7 +4,7 @@ use mathlib.Core.Path.{sym, ap, _∙_}
 use native.Mathlib.Omega.{arith}
 use borrow.Author.Needs.{needs}
 use Rattle.recording.specs.declared.cursor.Kind.{Kind}
-use Rattle.recording.specs.Cursor.{reading}
+use Rattle.recording.specs.Cursor.{reading, numbered}
 use Rattle.recording.proofs.Cursors.{read-short, read-over, found}
 use Rattle.recording.proofs.cursor.read_at.Statement.{statement}
 use Rattle.recording.proofs.cursor.read_at.Tie as tie
@@ -13,7 +13,7 @@ stopped-requires : tie.Need-stopped-requires
 stopped-requires c κs = search needs
 
 returns : tie.Need-returns
-returns c = c .stopped .ensures ∙ sym (read-short _ _ _ (omega arith))
+returns c = ap numbered (c .stopped .ensures ∙ sym (read-short _ _ _ (omega arith)))
 
 sub-if2 : tie.Need-sub-if2
 sub-if2 c = search needs
@@ -22,13 +22,13 @@ stopped-requires-2 : tie.Need-stopped-requires-2
 stopped-requires-2 c κs = search needs
 
 returns-2 : tie.Need-returns-2
-returns-2 c = c .stopped2 .ensures ∙ sym (read-short _ _ _ (omega arith))
+returns-2 c = ap numbered (c .stopped2 .ensures ∙ sym (read-short _ _ _ (omega arith)))
 
 stopped-requires-3 : tie.Need-stopped-requires-3
 stopped-requires-3 c κs = search needs
 
 returns-3 : tie.Need-returns-3
-returns-3 c = c .stopped3 .ensures ∙ sym (read-over _ _ _ (omega arith))
+returns-3 c = ap numbered (c .stopped3 .ensures ∙ sym (read-over _ _ _ (omega arith)))
 
 add-le16 : tie.Need-add-le16
 add-le16 c = search needs
@@ -46,7 +46,7 @@ stopped-requires-4 : tie.Need-stopped-requires-4
 stopped-requires-4 c κs = search needs
 
 returns-4 : tie.Need-returns-4
-returns-4 c = c .stopped4 .ensures ∙ sym (read-over _ _ _ (omega arith))
+returns-4 c = ap numbered (c .stopped4 .ensures ∙ sym (read-over _ _ _ (omega arith)))
 
 byte-requires : tie.Need-byte-requires
 byte-requires c κs = search needs
@@ -70,8 +70,8 @@ returns-5 : tie.Need-returns-5
 returns-5 c =
     let n = c .before .before .before .before .le16 in
     let a = c .before .before .before .before .before .before .before .before .before .args in
-    ap (λ (k : Kind). reading k (n .result) (a .entry + 4) (a .body + n .result)) (c .kind-of .ensures)
-    ∙ found _ _ _ _ _ _ (c .before .before .byte .ensures) (c .before .byte2 .ensures) (n .ensures) (omega arith) (omega arith)
+    ap numbered (ap (λ (k : Kind). reading k (n .result) (a .entry + 4) (a .body + n .result)) (c .kind-of .ensures)
+    ∙ found _ _ _ _ _ _ (c .before .before .byte .ensures) (c .before .byte2 .ensures) (n .ensures) (omega arith) (omega arith))
 
 pub read-at-spec : {M : Type 1} → statement M
 read-at-spec =

@@ -6,7 +6,7 @@ use lib.ListN.{drop}
 use borrow.Author.Needs.{needs}
 use borrow.Author.Tests.{not-true, not-false}
 use Rattle.recording.specs.Format.{formed}
-use Rattle.recording.proofs.Cursors.{Place, first, unread, formed-end}
+use Rattle.recording.proofs.Cursors.{Place, same-reading, first, unread, formed-end}
 use Rattle.recording.proofs.format.entries_formed.Statement.{statement}
 use Rattle.recording.proofs.format.entries_formed.Tie as tie
 
@@ -26,8 +26,8 @@ add-body c = omega arith
 loop-holds : tie.Need-loop-holds Inv-loop μ-loop
 loop-holds c = (record { table = omega arith; bodies = omega arith }, refl)
 
-read-requires : tie.Need-read-requires Inv-loop μ-loop
-read-requires c κs = search needs
+read-at-requires : tie.Need-read-at-requires Inv-loop μ-loop
+read-at-requires c κs = search needs
 
 is-kind-requires : tie.Need-is-kind-requires Inv-loop μ-loop
 is-kind-requires c κs = search needs
@@ -35,7 +35,7 @@ is-kind-requires c κs = search needs
 returns : tie.Need-returns Inv-loop μ-loop
 returns c =
     let l = c .before .before .before .before .loop in
-    sym (l .inv .1 ∙ unread _ _ _ _ _ (c .before .before .read .ensures) (omega arith) (l .inv .0) (sym (c .before .is-kind .ensures) ∙ not-true _ (c .if1 .taken)))
+    sym (l .inv .1 ∙ unread _ _ _ _ _ (same-reading _ _ (c .before .before .read-at .ensures)) (omega arith) (l .inv .0) (sym (c .before .is-kind .ensures) ∙ not-true _ (c .if1 .taken)))
 
 sub-left : tie.Need-sub-left Inv-loop μ-loop
 sub-left c = omega arith
@@ -46,7 +46,7 @@ loop-less c = omega arith
 loop-again : tie.Need-loop-again Inv-loop μ-loop
 loop-again c =
     let l = c .before .before .before .before .loop in
-    let f = first _ _ _ _ _ (c .before .before .read .ensures) (omega arith) (l .inv .0) (sym (c .before .is-kind .ensures) ∙ not-false _ (c .if1 .left)) in
+    let f = first _ _ _ _ _ (same-reading _ _ (c .before .before .read-at .ensures)) (omega arith) (l .inv .0) (sym (c .before .is-kind .ensures) ∙ not-false _ (c .if1 .left)) in
     (f .next, l .inv .1 ∙ f .formed)
 
 returns-2 : tie.Need-returns-2 Inv-loop μ-loop
@@ -64,7 +64,7 @@ entries-formed-spec =
     mul-body
     add-body
     loop-holds
-    read-requires
+    read-at-requires
     is-kind-requires
     returns
     sub-left

@@ -43,9 +43,10 @@ use denote.Triple.Table.{entered, cited}
 use denote.Triple.Walked.{says, Stays, stay-none, walkOf, goes-none, Walks, ends-at, walked, walk-meets}
 use denote.Exit.{yes}
 use denote.Triple.Clauses.{ensured, lasts}
-use Rattle.recording.specs.Cursor.{readAt}
+use Rattle.recording.specs.Cursor.{readAt, numbered}
 use Rattle.recording.specs.declared.head.Head.{Head}
 use Rattle.recording.specs.declared.cursor.Reading.{Reading}
+use Rattle.recording.proofs.Cursors.{same-reading}
 use Rattle.recording.proofs.cursor.Reading as S
 use Rattle.recording.proofs.cursor.Reading.Laws as S′
 use Rattle.recording.proofs.head.Head as T
@@ -126,13 +127,13 @@ module _ {M : Type 1} (𝓤 : URA M) (H : Heap 𝓤) (A : Atoms 𝓤) (W : Given
       move ! (2 ∷ 0 ∷ []) $ use2 W (raw (ReadAt 𝓤 H A mem run .pre to)) asked $ frame ! $ done !)
 
   -- of the callee's `ensured`, the clause alone: it has no `&mut`, so what is said of last values is dropped
-  said : (r : Reading) → ent 𝓤 (ensured 𝓤 H A step.ended (step.clauses 𝓤 H A mem run) (κ, tt) (d .recording, (d .entry, (d .body, tt))) tt r) (fact 𝓤 (r ≡ found))
-  said r = exE 𝓤 _ (λ ws. snd∗ 𝓤 (sem 𝓤 H A (lasts step.ended (κ, tt) (d .recording, (d .entry, (d .body, tt))) ws)) (fact 𝓤 (r ≡ found)))
+  said : (r : Reading) → ent 𝓤 (ensured 𝓤 H A step.ended (step.clauses 𝓤 H A mem run) (κ, tt) (d .recording, (d .entry, (d .body, tt))) tt r) (fact 𝓤 (numbered r ≡ numbered found))
+  said r = exE 𝓤 _ (λ ws. snd∗ 𝓤 (sem 𝓤 H A (lasts step.ended (κ, tt) (d .recording, (d .entry, (d .body, tt))) ws)) (fact 𝓤 (numbered r ≡ numbered found)))
 
-  exits : (r : Reading) → r .entry < 2 ^ 64 → r .body < 2 ^ 64 → r ≡ found → ent 𝓤 (⋆ 𝓤 H A ((‵ (flft κ q) ⊛ ‵ ftrue) ∷ ‵ Own ∷ [])) (Post (T′.lowered (d′ r)))
+  exits : (r : Reading) → r .entry < 2 ^ 64 → r .body < 2 ^ 64 → numbered r ≡ numbered found → ent 𝓤 (⋆ 𝓤 H A ((‵ (flft κ q) ⊛ ‵ ftrue) ∷ ‵ Own ∷ [])) (Post (T′.lowered (d′ r)))
   exits r fits fits₂ e =
       qed W ((‵ (flft κ q) ⊛ ‵ ftrue) ∷ ‵ Own ∷ []) ∵
-      suffices ! _ (ends-at 𝓤 H A f.ended stayed (f.clauses 𝓤 H A mem run) W (((κ, tt), (q, tt), tt, (d, tt), (mach ∷ [], tt)), tt) (T′.lowered (d′ r)) (d′ r) (tt, tt) (tt, tt)) $ says ! (refl, ap (λ (t : Reading). t .entry) e, ap (λ (t : Reading). t .body) e) $
+      suffices ! _ (ends-at 𝓤 H A f.ended stayed (f.clauses 𝓤 H A mem run) W (((κ, tt), (q, tt), tt, (d, tt), (mach ∷ [], tt)), tt) (T′.lowered (d′ r)) (d′ r) (tt, tt) (tt, tt)) $ says ! (refl, ap (λ (t : Reading). t .entry) (same-reading r found e), ap (λ (t : Reading). t .body) (same-reading r found e)) $
       frame ! $ use1 W (‵ Own ⊛ ‵ Own) (LL.copy D (T′.the-copy (namedLft 1 0 tt (κ, tt))) 𝓤 H A W .twice d (mach ∷ [])) $ split ! $ nothing ! $ move ! (1 ∷ 0 ∷ []) $ fjoin ! $ frame ! $
       owned ! usize (Is usize) (uint-makes 𝓤 H A W w64) (r .entry) _ (refl, fits) $ move ! (1 ∷ 0 ∷ []) $ use2 W (‵ (B (κ, tt) .own (d₁ r) (T′.lowered (d₁ r) ∷ []))) (own-put 𝓤 H A W D L 1 vd (r .entry) mach) $
       owned ! usize (Is usize) (uint-makes 𝓤 H A W w64) (r .body) _ (refl, fits₂) $ move ! (1 ∷ 0 ∷ []) $ by ! (own-put 𝓤 H A W D L 2 (d .recording, (r .entry, (d .body, tt))) (r .body) (T′.lowered (d₁ r)))
@@ -148,7 +149,7 @@ module _ {M : Type 1} (𝓤 : URA M) (H : Heap 𝓤) (A : Atoms 𝓤) (W : Given
         move ! (14 ∷ []) $ use1 W (raw (ReadAt 𝓤 H A mem run .pre to) ⊛ ‵ Own) (apart (wt .1 .1 .0 .fits) (wt .1 .1 .1 .0 .fits)) $ split ! $
         calls-at ! fm (ReadAt 𝓤 H A mem run) known to (and-then ! (load ! (from ! (stop !)) (look ! 8 refl)) (and-then ! (load ! (from ! (stop !)) (look ! 6 refl)) (and-then ! (load ! (from ! (stop !)) (look ! 4 refl)) (no-more !)))) (λ u.
         use1 W (later (some (λ (r : Reading). ((‵ (flft κ q) ⊛ ‵ ftrue) ⊛ ‵ (S.the-row .own r (u ∷ []))) ⊛ raw (ensured 𝓤 H A step.ended (step.clauses 𝓤 H A mem run) (κ, tt) (d .recording, (d .entry, (d .body, tt))) tt r)))) (id⊢ 𝓤 _) $ await ! tt $ pick ! (λ r.
-        split ! $ move ! (1 ∷ []) $ use1 W (raw (fact 𝓤 (r ≡ found))) (said r) $ heard ! (r ≡ found) (λ e. split ! $ move ! (1 ∷ []) $
+        split ! $ move ! (1 ∷ []) $ use1 W (raw (fact 𝓤 (numbered r ≡ numbered found))) (said r) $ heard ! (numbered r ≡ numbered found) (λ e. split ! $ move ! (1 ∷ []) $
         -- [the reading; the token; what the head owns; _6; …; _0; …]
         peeks ! S.the-row (Is S.the-row) (shows 𝓤 H A S.the-row) r (u ∷ []) (λ is.
         let parts = LL.owed S.the-type S′.the-laws r _ is in

@@ -1,0 +1,77 @@
+-- What is printed of an answer goes by its number and count: what the collector's contracts give. Assumes nothing.
+use Prim.Native.Nat.{ℕ, _≤_}
+use mathlib.Core.Path.{_≡_, refl, sym, ap, subst, _∙_}
+use mathlib.Core.List.{List, _++_}
+use native.Mathlib.Omega.{arith}
+use lib.Dec.{eqb}
+use lib.ListN.{length, length-append}
+use Rattle.wire.specs.Choice.{if_then_else_}
+use Rattle.wire.specs.Texts.{ascii}
+use Rattle.machine.specs.declared.answer.Answer.{Answer}
+use Rattle.machine.specs.declared.answer.Answer.the-variants.{Data, Ack, Nak, Stall, Silent, Refused}
+use Rattle.machine.specs.declared.answer.Refusal.the-variants as refusal
+use Rattle.machine.specs.declared.record.Device.{Device}
+use Rattle.machine.specs.Answer.{numberOf, countOf}
+use Rattle.machine.specs.Machine.{Out, out, Told, told}
+use Rattle.player.specs.declared.turns.Turn.{Turn}
+use Rattle.player.specs.Writing.{Wrote}
+use Rattle.player.specs.Print.{numeral, space, newline, dataText, refusedText, answerText, line}
+use Rattle.player.specs.Turns.{Turned}
+use Rattle.player.proofs.Writes.{wrote-as, numeral-length, answer-length}
+
+abbrev byNumber : ℕ → ℕ → List ℕ → List ℕ
+byNumber k n b =
+    if eqb k 0 then dataText n b
+    else (if eqb k 1 then ascii "ack"
+    else (if eqb k 2 then ascii "nak"
+    else (if eqb k 3 then ascii "stall"
+    else (if eqb k 4 then ascii "silent"
+    else refusedText k))))
+
+by-number : (a : Answer) (b : List ℕ) → answerText a b ≡ byNumber (numberOf a) (countOf a) b
+unfolding answerText if_then_else_
+by-number (Data n) b = refl
+by-number Ack b = refl
+by-number Nak b = refl
+by-number Stall b = refl
+by-number Silent b = refl
+by-number (Refused refusal.Record) b = refl
+by-number (Refused refusal.Medium) b = refl
+by-number (Refused refusal.Buffer) b = refl
+by-number (Refused refusal.Packet) b = refl
+by-number (Refused refusal.Setup) b = refl
+by-number (Refused refusal.Number) b = refl
+
+same-text : (o p : Out) → told o ≡ told p → answerText (o .answer) (o .buffer) ≡ answerText (p .answer) (p .buffer)
+same-text o p e =
+    by-number (o .answer) (o .buffer)
+    ∙ ap (λ (t : Told). byNumber (t .number) (t .count) (t .buffer)) e
+    ∙ sym (by-number (p .answer) (p .buffer))
+
+same-line : (k : ℕ) (o p : Out) → told o ≡ told p → line k (o .answer) (o .buffer) ≡ line k (p .answer) (p .buffer)
+unfolding line
+same-line k o p e = ap (λ (s : List ℕ). numeral k ++ space ++ s ++ newline) (same-text o p e)
+
+pub line-length : (k : ℕ) (a : Answer) (b : List ℕ) → length b ≤ 64 → length (line k a b) ≤ 207
+unfolding line
+line-length k a b h =
+    let p = length-append (numeral k ++ space ++ answerText a b) newline in
+    let q = length-append (numeral k ++ space) (answerText a b) in
+    let r = length-append (numeral k) space in
+    let n = numeral-length k in
+    let l = answer-length a b h in
+    omega arith
+
+-- the code's outcome and its line are the machine's
+pub turned : (a : Answer) (d : Device) (m b : List ℕ) (o : Out) (k : ℕ) (before : List ℕ) (at : ℕ) (after : List ℕ) (end : ℕ)
+    → told (out a d m b) ≡ told o → length b ≤ 64 → Wrote before at (line k a b) after end
+    → Turned o k before at after m (record { device = d; at = end })
+turned a d m b o k before at after end e h w = record {
+  device = ap (λ (t : Told). t .dev) e;
+  medium = ap (λ (t : Told). t .medium) e;
+  text = wrote-as _ _ _ _ _ _ (same-line k (out a d m b) o e) w;
+  room = let l = line-length k a b h in let p = w .place in omega arith;
+}
+
+pub turned-as : (o p : Out) (k : ℕ) (before : List ℕ) (at : ℕ) (after m : List ℕ) (t : Turn) → o ≡ p → Turned o k before at after m t → Turned p k before at after m t
+turned-as o p k before at after m t e w = subst (λ (q : Out). Turned q k before at after m t) e w

@@ -1,0 +1,4 @@
+pub mod Writes
+pub mod Answers
+pub mod Playing
+pub mod Room

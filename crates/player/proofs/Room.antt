@@ -1,0 +1,77 @@
+-- The claim of specs/Claims.antt that the text's buffer always suffices. Assumes nothing.
+use Prim.Native.Nat.{ℕ, zero, suc, _+_, _*_, _≤_}
+use mathlib.Core.Path.{_≡_, refl, sym, subst}
+use mathlib.Core.Bool.{Bool, true, false}
+use mathlib.Core.List.{List, _++_}
+use native.Mathlib.Omega.{arith}
+use lib.ListN.{length, take, drop, length-append, length-drop}
+use Rattle.wire.proofs.Packets.{length-zeros}
+use Rattle.machine.specs.declared.record.Device.{Device}
+use Rattle.wire.proofs.Cases.{by-if}
+use Rattle.machine.specs.Making.{mediumServed, make}
+use Rattle.machine.specs.Machine.{Out, run, step}
+use Rattle.machine.specs.Beside.{bufferOf, Lawful, unchanged, stalled, locked, handed, acked}
+use Rattle.machine.proofs.StepLaws.{step-laws}
+use Rattle.recording.specs.declared.cursor.Kind.{Kind}
+use Rattle.recording.specs.declared.cursor.Kind.the-variants.{Reset, Control, Out as outward, Ask, Malformed}
+use Rattle.recording.specs.Format.{kindIn, lengthIn, eventOf, eventsIn, countOf, tableOf, bodiesOf, isFormed, Parsed}
+use Rattle.recording.proofs.Parses.{parse-bad, parse-good, sound}
+use Rattle.player.specs.Print.{line, lines, heading}
+use Rattle.player.specs.Player.{benchIdentity, played, textOf, printedOver, mostText}
+use Rattle.player.specs.Claims.{TextFits}
+use Rattle.player.proofs.Writes.{refused-line-length}
+use Rattle.player.proofs.Answers.{line-length}
+use Rattle.player.proofs.Playing.{heading-length}
+
+-- no event leaves a longer buffer than it is lent
+keeps : (d : Device) (m b : List ℕ) (o : Out) → Lawful d m b o → length b ≤ 64 → length (o .buffer) ≤ 64
+keeps d m b _ (unchanged a e) h = h
+keeps d m b _ stalled h = h
+keeps d m b _ locked h = h
+keeps d m b _ (handed e s k l) h = let p = length-append s (drop (length s) b) in let q = length-drop (length s) b in omega arith
+keeps d m b _ (acked e n) h = h
+
+lent : (k : Kind) (s : List ℕ) → length (bufferOf (eventOf k s)) ≤ 64
+unfolding eventOf
+lent Reset s = omega arith
+lent Control s = let n = length-zeros 64 in omega arith
+lent outward s = omega arith
+lent Ask s = let n = length-zeros 64 in omega arith
+lent Malformed s = omega arith
+
+short : (d : Device) (m : List ℕ) (k : Kind) (s : List ℕ) → length (step d m (eventOf k s) .buffer) ≤ 64
+short d m k s = keeps d m (bufferOf (eventOf k s)) (step d m (eventOf k s)) (step-laws d m (eventOf k s)) (lent k s)
+
+lines-most : (n : ℕ) (t b : List ℕ) (d : Device) (m : List ℕ) (k : ℕ) → length (lines k (run d m (eventsIn n t b) .replies)) ≤ 207 * n
+unfolding eventsIn run lines
+lines-most zero t b d m k = omega arith
+lines-most (suc n) t b d m k =
+    let e = eventOf (kindIn t) (take (lengthIn t) b) in
+    let o = step d m e in
+    let h = line-length k (o .answer) (o .buffer) (short d m (kindIn t) (take (lengthIn t) b)) in
+    let r = lines-most n (drop 4 t) (drop (lengthIn t) b) (o .dev) (o .medium) (k + 1) in
+    let a = length-append (line k (o .answer) (o .buffer)) (lines (k + 1) (run (o .dev) (o .medium) (eventsIn n (drop 4 t) (drop (lengthIn t) b)) .replies)) in
+    omega arith
+
+text-good : (start s : List ℕ) → isFormed s ≡ true → length (printedOver start s) ≤ mostText
+unfolding printedOver textOf played
+text-good start s f =
+    let es = eventsIn (countOf s) (tableOf s) (bodiesOf s) in
+    let few = sound s (countOf s) f refl .few in
+    let h = heading-length (length es) in
+    let l = lines-most (countOf s) (tableOf s) (bodiesOf s) (make benchIdentity start .dev) start 1 in
+    let a = length-append (heading (length es)) (lines 1 (played start es .replies)) in
+    let n = refused-line-length 11 in
+    subst (λ (x : Parsed). length (textOf start x) ≤ mostText) (sym (parse-good s f))
+    (by-if (λ (x : List ℕ). length x ≤ mostText) (mediumServed start) _ _ (λ _. omega arith) (λ _. omega arith))
+
+text-bad : (start s : List ℕ) → isFormed s ≡ false → length (printedOver start s) ≤ mostText
+unfolding printedOver textOf
+text-bad start s f = let n = refused-line-length 16 in subst (λ (x : Parsed). length (textOf start x) ≤ mostText) (sym (parse-bad s f)) (omega arith)
+
+pub text-fits : TextFits
+text-fits start s = either (isFormed s) refl
+  where
+    either : (t : Bool) → isFormed s ≡ t → length (printedOver start s) ≤ mostText
+    either true e = text-good start s e
+    either false e = text-bad start s e

@@ -1,0 +1,45 @@
+-- `play` meets its contract. Assumes nothing.
+use mathlib.Core.Path.{_≡_, sym, ap, _∙_}
+use native.Mathlib.Omega.{arith}
+use lib.ListN.{length}
+use borrow.Author.Tests.{not-true, not-false}
+use Rattle.wire.specs.Slices.{zeros}
+use Rattle.player.specs.Player.{benchMedium}
+use Rattle.player.proofs.Playing.{refuses, cleared, bench-served}
+use borrow.Author.Needs.{needs}
+use Rattle.player.proofs.play.play.Statement.{statement}
+use Rattle.player.proofs.play.play.Tie as tie
+
+is-formed-requires : tie.Need-is-formed-requires
+is-formed-requires c κs = search needs
+
+refusal-requires : tie.Need-refusal-requires
+refusal-requires c κs = search needs
+
+returns : tie.Need-returns
+returns c = refuses _ _ _ _ _ _ (sym (c .before .before .before .is-formed .ensures) ∙ not-true _ (c .before .before .if1 .taken)) (omega arith) (c .refusal .ensures)
+
+clear-requires : tie.Need-clear-requires
+clear-requires c κs = search needs
+
+played-requires : tie.Need-played-requires
+played-requires c κs = sym (c .before .before .before .before .before .is-formed .ensures) ∙ not-false _ (c .before .before .before .before .if1 .left)
+
+returns-2 : tie.Need-returns-2
+unfolding benchMedium
+returns-2 c = cleared _ _ _ _ _ _ _ _
+    (sym (c .before .before .before .before .before .before .is-formed .ensures) ∙ not-false _ (c .before .before .before .before .before .if1 .left))
+    bench-served
+    (c .before .before .before .clear .ensures ∙ ap zeros (let l : length (c .before .before .before .before .before .before .before .before .args .medium .now) ≡ 32768 = omega arith in l))
+    (c .played .ensures)
+
+pub play-spec : {M : Type 1} → statement M
+play-spec =
+    tie.close
+    (tie.spec
+    is-formed-requires
+    refusal-requires
+    returns
+    clear-requires
+    played-requires
+    returns-2)

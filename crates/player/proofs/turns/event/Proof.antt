@@ -1,0 +1,107 @@
+-- `event` meets its contract. Assumes nothing.
+use mathlib.Core.Path.{sym, ap}
+use Rattle.machine.specs.Machine.{step}
+use Rattle.recording.specs.declared.cursor.Kind.{Kind}
+use Rattle.recording.specs.Format.{eventOf}
+use Rattle.player.proofs.Answers.{turned-as}
+use borrow.Author.Needs.{needs}
+use Rattle.player.proofs.turns.event.Statement.{statement}
+use Rattle.player.proofs.turns.event.Tie as tie
+
+enum-told : tie.Need-enum-told
+enum-told c = search needs
+
+reset-requires : tie.Need-reset-requires
+reset-requires c κs = search needs
+
+enum-told-2 : tie.Need-enum-told-2
+enum-told-2 c = search needs
+
+request-requires : tie.Need-request-requires
+request-requires c κs = search needs
+
+enum-told-3 : tie.Need-enum-told-3
+enum-told-3 c = search needs
+
+packet-requires : tie.Need-packet-requires
+packet-requires c κs = search needs
+
+enum-told-4 : tie.Need-enum-told-4
+enum-told-4 c = search needs
+
+ask-requires : tie.Need-ask-requires
+ask-requires c κs = search needs
+
+enum-told-5 : tie.Need-enum-told-5
+enum-told-5 c = search needs
+
+reset-requires-2 : tie.Need-reset-requires-2
+reset-requires-2 c κs = search needs
+
+same-length : tie.Need-same-length
+same-length c = search needs
+
+returns : tie.Need-returns
+unfolding eventOf
+returns c = let a = c .before .before .before .before .before .before .before .before .before .args in turned-as _ _ _ _ _ _ _ _ (sym (ap (λ (k : Kind). step (a .device) (a .medium .now) (eventOf k (a .body .now))) (c .before .before .before .before .enum-told .given .1))) (c .before .before .reset .ensures (a .medium .now))
+
+same-length-2 : tie.Need-same-length-2
+same-length-2 c = search needs
+
+returns-2 : tie.Need-returns-2
+unfolding eventOf
+returns-2 c = let a = c .before .before .before .before .before .before .before .before .before .args in turned-as _ _ _ _ _ _ _ _ (sym (ap (λ (k : Kind). step (a .device) (a .medium .now) (eventOf k (a .body .now))) (c .before .before .before .before .enum-told2 .given .1))) (c .before .before .request .ensures (a .medium .now))
+
+same-length-3 : tie.Need-same-length-3
+same-length-3 c = search needs
+
+same-length-4 : tie.Need-same-length-4
+same-length-4 c = search needs
+
+returns-3 : tie.Need-returns-3
+unfolding eventOf
+returns-3 c = let a = c .before .before .before .before .before .before .before .before .before .before .before .before .args in turned-as _ _ _ _ _ _ _ _ (sym (ap (λ (k : Kind). step (a .device) (a .medium .now) (eventOf k (a .body .now))) (c .before .before .before .before .before .before .before .enum-told3 .given .1))) (c .before .before .before .before .packet .ensures)
+
+same-length-5 : tie.Need-same-length-5
+same-length-5 c = search needs
+
+same-length-6 : tie.Need-same-length-6
+same-length-6 c = search needs
+
+returns-4 : tie.Need-returns-4
+unfolding eventOf
+returns-4 c = let a = c .before .before .before .before .before .before .before .before .before .before .args in turned-as _ _ _ _ _ _ _ _ (sym (ap (λ (k : Kind). step (a .device) (a .medium .now) (eventOf k (a .body .now))) (c .before .before .before .before .before .enum-told4 .given .1))) (c .before .before .ask .ensures)
+
+same-length-7 : tie.Need-same-length-7
+same-length-7 c = search needs
+
+returns-5 : tie.Need-returns-5
+unfolding eventOf
+returns-5 c = let a = c .before .before .before .before .before .before .before .before .before .args in turned-as _ _ _ _ _ _ _ _ (sym (ap (λ (k : Kind). step (a .device) (a .medium .now) (eventOf k (a .body .now))) (c .before .before .before .before .enum-told5 .given .1))) (c .before .before .reset2 .ensures (a .medium .now))
+
+pub event-spec : {M : Type 1} → statement M
+event-spec =
+    tie.close
+    (tie.spec
+    enum-told
+    reset-requires
+    enum-told-2
+    request-requires
+    enum-told-3
+    packet-requires
+    enum-told-4
+    ask-requires
+    enum-told-5
+    reset-requires-2
+    same-length
+    returns
+    same-length-2
+    returns-2
+    same-length-3
+    same-length-4
+    returns-3
+    same-length-5
+    same-length-6
+    returns-4
+    same-length-7
+    returns-5)

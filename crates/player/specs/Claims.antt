@@ -1,0 +1,9 @@
+-- What is claimed of the player. Proved in proofs/Room.antt.
+use Prim.Native.Nat.{ℕ, _≤_}
+use mathlib.Core.List.{List}
+use lib.ListN.{length}
+use Rattle.player.specs.Player.{printedOver, mostText}
+
+-- The text's buffer always suffices, over every medium.
+abbrev pub TextFits : Type 0
+TextFits = (start s : List ℕ) → length (printedOver start s) ≤ mostText

@@ -1,0 +1,52 @@
+-- A recording played (document 01, "The bench recording"): the machine's run over its events, and what is printed of it.
+use Prim.Native.Nat.{ℕ, _+_, _*_}
+use mathlib.Core.Path.{_≡_}
+use mathlib.Core.List.{List, _++_}
+use lib.ListN.{length, drop}
+use Rattle.wire.specs.Slices.{zeros}
+use Rattle.usb.specs.declared.descriptor.Identity.{Identity}
+use Rattle.wire.specs.Choice.{if_then_else_}
+use Rattle.machine.specs.Making.{mediumServed, make}
+use Rattle.machine.specs.Machine.{Event, Run, run}
+use Rattle.recording.specs.Format.{Parsed, malformed, wellFormed, parse}
+use Rattle.player.specs.Print.{heading, lines, refusedLine}
+
+-- "number 42, other identity numbers 0"
+abbrev pub benchIdentity : Identity
+benchIdentity = record { number = 42; vendor = 0; product = 0; release = 0 }
+
+-- The run over a medium as it is lent.
+unfoldable pub played : List ℕ → List Event → Run
+played start es = run (make benchIdentity start .dev) start es
+
+-- The text, and the medium that is left. Nothing is run, and the medium stays as it was, of a malformed recording (16), then
+-- over a medium that making refuses (11; the number 42 is never refused).
+unfoldable pub textOf : List ℕ → Parsed → List ℕ
+textOf start malformed = refusedLine 16
+textOf start (wellFormed es) =
+    if mediumServed start then heading (length es) ++ lines 1 (played start es .replies) else refusedLine 11
+
+unfoldable pub mediumOf : List ℕ → Parsed → List ℕ → List ℕ
+mediumOf start malformed m = m
+mediumOf start (wellFormed es) m = if mediumServed start then played start es .medium else m
+
+unfoldable pub printedOver : List ℕ → List ℕ → List ℕ
+printedOver start s = textOf start (parse s)
+
+-- What a player leaves of a recording s: the text t has the print-out in front and keeps the rest, r is the print-out's length.
+pub record Leaves (start s t m t′ : List ℕ) (r : ℕ) (m′ : List ℕ) : Type 0 where
+  pub text : t′ ≡ printedOver start s ++ drop (length (printedOver start s)) t
+  pub place : r ≡ length (printedOver start s)
+  pub medium : m′ ≡ mediumOf start (parse s) m
+
+-- The bench's: "64 zero blocks".
+unfoldable pub benchMedium : List ℕ
+benchMedium = zeros 32768
+
+-- The text's room: a line is at most a number of four digits, a space, `data`, a space, four digits, three characters for each of
+-- 64 bytes, and a newline; and the heading.
+abbrev pub mostLine : ℕ
+mostLine = 207
+
+abbrev pub mostText : ℕ
+mostText = 12 + 1024 * mostLine

@@ -1,0 +1,15 @@
+-- What one event of a recording leaves, printed: what the inner functions' contracts cite.
+use Prim.Native.Nat.{ℕ, _+_, _≤_}
+use mathlib.Core.Path.{_≡_}
+use mathlib.Core.List.{List}
+use Rattle.machine.specs.Machine.{Out}
+use Rattle.player.specs.declared.turns.Turn.{Turn}
+use Rattle.player.specs.Writing.{Wrote}
+use Rattle.player.specs.Print.{line}
+
+-- The machine's outcome o is left, and its line was written from a place on.
+pub record Turned (o : Out) (number : ℕ) (before : List ℕ) (at : ℕ) (after store : List ℕ) (t : Turn) : Type 0 where
+  pub device : t .device ≡ o .dev
+  pub medium : store ≡ o .medium
+  pub text : Wrote before at (line number (o .answer) (o .buffer)) after (t .at)
+  pub room : t .at ≤ at + 207

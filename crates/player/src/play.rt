@@ -1,0 +1,134 @@
+// The player: a recording is checked as a whole, and then its events are run, each with its line.
+ghost use mathlib.Core.Path.{_≡_};
+ghost use mathlib.Core.Bool.{true};
+ghost use mathlib.Core.List.{_++_};
+ghost use Prim.Native.Nat.{_+_, _*_, _≤_};
+ghost use lib.Dec.{eqb};
+ghost use lib.ListN.{length, drop};
+ghost use Rattle.wire.specs.Slices.{zeros};
+ghost use Rattle.machine.specs.Answer.{numberOf};
+ghost use Rattle.machine.specs.Machine.{run};
+ghost use Rattle.recording.specs.Format.{formed, eventsIn, isFormed};
+ghost use Rattle.player.specs.Writing.{Wrote};
+ghost use Rattle.player.specs.Print.{lines};
+ghost use Rattle.player.specs.Player.{benchMedium, Leaves};
+use crate::print::heading;
+use crate::print::refusal;
+use crate::turns::event;
+use collector::events::make;
+use machine::answer::Answer;
+use machine::record::Device;
+use recording::format::count_of;
+use recording::format::is_formed;
+use recording::head::read;
+use usb::descriptor::Identity;
+
+// 64 blocks.
+pub const MEDIUM: usize = 32768;
+
+// The text's room, which always suffices (claim `TextFits`): the heading, and 1,024 lines of at most 207 bytes.
+pub const ROOM: usize = 211980;
+
+fn clear(medium: &mut [u8])
+    ensures { λ r. ⌜ now (medium .exit) ≡ zeros (length (now (medium .entry))) ⌝ }
+{
+    let mut i = 0;
+    while i < medium.len() {
+        medium[i] = 0;
+        i += 1;
+    }
+}
+
+// The events of a well-formed recording, so many, on a device.
+fn events(
+    input: &[u8],
+    count: usize,
+    medium: &mut [u8],
+    text: &mut [u8],
+    from: usize,
+    made: Device,
+) -> usize
+    requires { ⌜ (count ≤ 1024) × (2 + 4 * count ≤ length (now input)) × (from + 207 * count ≤ length (now text)) × (formed count (drop 2 (now input)) (drop (2 + 4 * count) (now input)) ≡ true) ⌝ }
+    ensures { λ r. ⌜ Wrote (now (text .entry)) from (lines 1 (run made (now (medium .entry)) (eventsIn count (drop 2 (now (input .entry))) (drop (2 + 4 * count) (now (input .entry)))) .replies)) (now (text .exit)) r ⌝ }
+    ensures { λ r. ⌜ now (medium .exit) ≡ run made (now (medium .entry)) (eventsIn count (drop 2 (now (input .entry))) (drop (2 + 4 * count) (now (input .entry)))) .medium ⌝ }
+    ensures { λ r. ⌜ r ≤ length (now (text .entry)) ⌝ }
+{
+    let mut device = made;
+    let mut at = from;
+    let mut left = count;
+    let mut entry = 2;
+    let mut body = 2 + 4 * count;
+    let mut number = 1;
+    while 0 < left {
+        let r = read(input, entry, body);
+        let kind = r.kind;
+        let end = body + r.len;
+        let t = event(device, kind, &input[body..end], medium, text, at, number);
+        let next = t.device;
+        device = next;
+        at = t.at;
+        entry = r.entry;
+        body = r.body;
+        number += 1;
+        left -= 1;
+    }
+    at
+}
+
+fn is_ack(answer: Answer) -> bool
+    ensures { λ r. ⌜ r ≡ eqb (numberOf answer) 1 ⌝ }
+{
+    match answer {
+        Answer::Data { count } => false,
+        Answer::Ack => true,
+        Answer::Nak => false,
+        Answer::Stall => false,
+        Answer::Silent => false,
+        Answer::Refused { why } => false,
+    }
+}
+
+// A well-formed recording, on a collector made over the medium as it stands. What making refuses is the medium: the number
+// 42 fits.
+fn played(input: &[u8], medium: &mut [u8], text: &mut [u8; ROOM]) -> usize
+    requires { ⌜ isFormed (now input) ≡ true ⌝ }
+    ensures { λ r. ⌜ Leaves (now (medium .entry)) (now (input .entry)) (now (text .entry)) (now (medium .entry)) (now (text .exit)) r (now (medium .exit)) ⌝ }
+{
+    let identity = Identity {
+        number: 42,
+        vendor: 0,
+        product: 0,
+        release: 0,
+    };
+    let made = make(identity, medium);
+    let answer = made.answer;
+    if !is_ack(answer) {
+        return refusal(text, 11);
+    }
+    let device = made.device;
+    let count = count_of(input);
+    let at = heading(text, count);
+    events(input, count, medium, text, at, device)
+}
+
+// Plays a recording over a lent medium as it stands, and writes what is printed in front of what the text's buffer holds;
+// the result is the text's length.
+pub fn play_over(input: &[u8], medium: &mut [u8], text: &mut [u8; ROOM]) -> usize
+    ensures { λ r. ⌜ Leaves (now (medium .entry)) (now (input .entry)) (now (text .entry)) (now (medium .entry)) (now (text .exit)) r (now (medium .exit)) ⌝ }
+{
+    if !is_formed(input) {
+        return refusal(text, 16);
+    }
+    played(input, medium, text)
+}
+
+// The same over the bench's 64 blocks, which are made zero first; a malformed recording leaves them as they were.
+pub fn play(input: &[u8], medium: &mut [u8; MEDIUM], text: &mut [u8; ROOM]) -> usize
+    ensures { λ r. ⌜ Leaves benchMedium (now (input .entry)) (now (text .entry)) (now (medium .entry)) (now (text .exit)) r (now (medium .exit)) ⌝ }
+{
+    if !is_formed(input) {
+        return refusal(text, 16);
+    }
+    clear(medium);
+    played(input, medium, text)
+}
