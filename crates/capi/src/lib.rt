@@ -1,5 +1,6 @@
 // The C interface: making a collector and the four events over a record that C owns. Each answers document 01's number, and
-// leaves what the specification machine leaves. include/collector.h declares it.
+// leaves what the specification machine leaves; specs/Calls.antt says what a list of calls comes to. include/collector.h
+// declares it.
 ghost use Prim.Native.Nat.{ℕ};
 ghost use mathlib.Core.Path.{_≡_};
 ghost use mathlib.Core.List.{List, []};
