@@ -2,3 +2,5 @@ pub mod Writes
 pub mod Answers
 pub mod Playing
 pub mod Room
+pub mod Again
+pub mod Calls

@@ -14,13 +14,15 @@ ghost use Rattle.player.specs.Print.{lines};
 ghost use Rattle.player.specs.Player.{benchMedium, Leaves};
 use crate::print::heading;
 use crate::print::refusal;
-use crate::turns::event;
+use crate::turns::Turn;
+use crate::turns::play_one;
 use collector::events::make;
 use machine::answer::Answer;
-use machine::record::Device;
 use recording::format::count_of;
 use recording::format::is_formed;
-use recording::head::read;
+use recording::head::moved;
+use recording::head::new;
+use recording::head::next;
 use usb::descriptor::Identity;
 
 // 64 blocks.
@@ -39,40 +41,21 @@ fn clear(medium: &mut [u8])
     }
 }
 
-// The events of a well-formed recording, so many, on a device.
-fn events(
-    input: &[u8],
-    count: usize,
-    medium: &mut [u8],
-    text: &mut [u8],
-    from: usize,
-    made: Device,
-) -> usize
-    requires { ⌜ (count ≤ 1024) × (2 + 4 * count ≤ length (now input)) × (from + 207 * count ≤ length (now text)) × (formed count (drop 2 (now input)) (drop (2 + 4 * count) (now input)) ≡ true) ⌝ }
-    ensures { λ r. ⌜ Wrote (now (text .entry)) from (lines 1 (run made (now (medium .entry)) (eventsIn count (drop 2 (now (input .entry))) (drop (2 + 4 * count) (now (input .entry)))) .replies)) (now (text .exit)) r ⌝ }
-    ensures { λ r. ⌜ now (medium .exit) ≡ run made (now (medium .entry)) (eventsIn count (drop 2 (now (input .entry))) (drop (2 + 4 * count) (now (input .entry)))) .medium ⌝ }
-    ensures { λ r. ⌜ r ≤ length (now (text .entry)) ⌝ }
+// The events of a well-formed recording, so many, from a record and a place in the text on.
+fn events(input: &[u8], count: usize, medium: &mut [u8], text: &mut [u8], start: Turn) -> Turn
+    requires { ⌜ (count ≤ 1024) × (2 + 4 * count ≤ length (now input)) × (start .at + 207 * count ≤ length (now text)) × (formed count (drop 2 (now input)) (drop (2 + 4 * count) (now input)) ≡ true) ⌝ }
+    ensures { λ r. ⌜ (Wrote (now (text .entry)) (start .at) (lines 1 (run (start .device) (now (medium .entry)) (eventsIn count (drop 2 (now (input .entry))) (drop (2 + 4 * count) (now (input .entry)))) .replies)) (now (text .exit)) (r .at)) × (now (medium .exit) ≡ run (start .device) (now (medium .entry)) (eventsIn count (drop 2 (now (input .entry))) (drop (2 + 4 * count) (now (input .entry)))) .medium) × (r .at ≤ length (now (text .entry))) ⌝ }
 {
-    let mut device = made;
-    let mut at = from;
-    let mut left = count;
-    let mut entry = 2;
-    let mut body = 2 + 4 * count;
-    let mut number = 1;
-    while 0 < left {
-        let r = read(input, entry, body);
-        let kind = r.kind;
-        let end = body + r.len;
-        let t = event(device, kind, &input[body..end], medium, text, at, number);
-        let next = t.device;
-        device = next;
-        at = t.at;
-        entry = r.entry;
-        body = r.body;
-        number += 1;
-        left -= 1;
+    let mut head = new(input, 2, 2 + 4 * count);
+    let mut turn = start;
+    let mut done = 0;
+    while done < count {
+        let r = next(head);
+        turn = play_one(head.recording, head.body, r, turn, done, medium, text);
+        head = moved(head, r);
+        done += 1;
     }
-    at
+    turn
 }
 
 fn is_ack(answer: Answer) -> bool
@@ -108,7 +91,9 @@ fn played(input: &[u8], medium: &mut [u8], text: &mut [u8; ROOM]) -> usize
     let device = made.device;
     let count = count_of(input);
     let at = heading(text, count);
-    events(input, count, medium, text, at, device)
+    let start = Turn { device, at };
+    let last = events(input, count, medium, text, start);
+    last.at
 }
 
 // Plays a recording over a lent medium as it stands, and writes what is printed in front of what the text's buffer holds;

@@ -1,7 +1,7 @@
 // One event of a recording: it is run on the collector, and its line is written. The buffer that an event is lent is of zeros.
 ghost use mathlib.Core.List.{List};
-ghost use Prim.Native.Nat.{ℕ, _+_, _≤_};
-ghost use lib.ListN.{length};
+ghost use Prim.Native.Nat.{ℕ, _+_, _≤_, _<_};
+ghost use lib.ListN.{length, take, drop};
 ghost use Rattle.machine.specs.Machine.{step, busReset, bulkOut, bulkIn};
 ghost use Rattle.machine.specs.Machine as machines;
 ghost use Rattle.recording.specs.Format.{lentBuffer, eventOf};
@@ -13,6 +13,7 @@ use collector::events::bus_reset;
 use collector::events::control;
 use machine::record::Device;
 use recording::cursor::Kind;
+use recording::cursor::Reading;
 
 // The record after an event, and the place behind its line.
 pub(crate) struct Turn {
@@ -85,7 +86,7 @@ fn ask(device: Device, medium: &[u8], text: &mut [u8], at: usize, number: usize)
     }
 }
 
-pub(crate) fn event(
+fn event(
     device: Device,
     kind: Kind,
     body: &[u8],
@@ -104,4 +105,31 @@ pub(crate) fn event(
         Kind::Ask => ask(device, medium, text, at, number),
         Kind::Malformed => reset(device, text, at, number),
     }
+}
+
+// The event that was read, after so many others: its body starts at `body`.
+pub(crate) fn play_one(
+    input: &[u8],
+    body: usize,
+    r: Reading,
+    turn: Turn,
+    done: usize,
+    medium: &mut [u8],
+    text: &mut [u8],
+) -> Turn
+    requires { ⌜ (body + r .len ≤ length (now input)) × (done < 1024) × (turn .at + 207 ≤ length (now text)) ⌝ }
+    ensures { λ x. ⌜ Turned (step (turn .device) (now (medium .entry)) (eventOf (r .kind) (take (r .len) (drop body (now (input .entry)))))) (done + 1) (now (text .entry)) (turn .at) (now (text .exit)) (now (medium .exit)) x ⌝ }
+{
+    let kind = r.kind;
+    let end = body + r.len;
+    let device = turn.device;
+    event(
+        device,
+        kind,
+        &input[body..end],
+        medium,
+        text,
+        turn.at,
+        done + 1,
+    )
 }

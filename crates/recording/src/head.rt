@@ -28,21 +28,13 @@ pub fn next<'a>(h: Head<'a>) -> Reading
     read_at(h.recording, h.entry, h.body)
 }
 
-// The head moved on past that event.
-pub fn advanced<'a>(h: Head<'a>) -> Head<'a>
-    ensures { λ r. ⌜ (r .recording ≡ h .entry .recording) × (r .entry ≡ readAt (now (h .entry .recording)) (h .entry .entry) (h .entry .body) .entry) × (r .body ≡ readAt (now (h .entry .recording)) (h .entry .entry) (h .entry .body) .body) ⌝ }
+// The head moved on past an event that was read.
+pub fn moved<'a>(h: Head<'a>, past: Reading) -> Head<'a>
+    ensures { λ r. ⌜ (r .recording ≡ h .entry .recording) × (r .entry ≡ past .entry) × (r .body ≡ past .body) ⌝ }
 {
-    let r = read_at(h.recording, h.entry, h.body);
     Head {
         recording: h.recording,
-        entry: r.entry,
-        body: r.body,
+        entry: past.entry,
+        body: past.body,
     }
-}
-
-// Plain parameters, for callers that need no walk.
-pub fn read(s: &[u8], entry: usize, body: usize) -> Reading
-    ensures { λ r. ⌜ numbered r ≡ numbered (readAt (now (s .entry)) entry body) ⌝ }
-{
-    next(new(s, entry, body))
 }

@@ -62,8 +62,8 @@ returns-2 c =
     (c .before .before .before .before .before .before .before .count-of .ensures)
     (c .before .before .before .before .before .heading .ensures)
     (e .0)
-    (e .1 .0)
-    (omega (arith, e .1 .1))
+    (e .1)
+    (omega (arith, e .2))
 
 pub played-spec : {M : Type 1} → statement M
 played-spec =

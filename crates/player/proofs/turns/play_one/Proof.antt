@@ -1,0 +1,55 @@
+-- `play_one` meets its contract. Assumes nothing.
+use Prim.Native.Nat.{ℕ, _+_, _-_}
+use mathlib.Core.Path.{_≡_, ap}
+use native.Mathlib.Omega.{arith}
+use lib.ListN.{take, drop}
+use borrow.Author.Needs.{needs}
+use Rattle.machine.specs.Machine.{step}
+use Rattle.recording.specs.Format.{eventOf}
+use Rattle.player.proofs.Answers.{turned-as}
+use Rattle.player.proofs.turns.play_one.Statement.{statement}
+use Rattle.player.proofs.turns.play_one.Tie as tie
+
+add-end : tie.Need-add-end
+add-end c = search needs
+
+sub-event : tie.Need-sub-event
+sub-event c = search needs
+
+part-event-start : tie.Need-part-event-start
+part-event-start c = search needs
+
+part-event-end : tie.Need-part-event-end
+part-event-end c = search needs
+
+add-event : tie.Need-add-event
+add-event c = search needs
+
+event-requires : tie.Need-event-requires
+event-requires c κs = search needs
+
+same-length : tie.Need-same-length
+same-length c = search needs
+
+same-length-2 : tie.Need-same-length-2
+same-length-2 c = search needs
+
+returns : tie.Need-returns
+returns c =
+    let a = c .before .before .before .before .before .before .before .before .before .before .before .before .before .args in
+    let n : a .body + a .r .len - a .body ≡ a .r .len = omega arith in
+    turned-as _ _ _ _ _ _ _ _ (ap (λ (k : ℕ). step (a .turn .device) (a .medium .now) (eventOf (a .r .kind) (take k (drop (a .body) (a .input .now))))) n) (c .before .before .before .before .event .ensures)
+
+pub play-one-spec : {M : Type 1} → statement M
+play-one-spec =
+    tie.close
+    (tie.spec
+    add-end
+    sub-event
+    part-event-start
+    part-event-end
+    add-event
+    event-requires
+    same-length
+    same-length-2
+    returns)
