@@ -1,15 +1,10 @@
 -- Replies, descriptors and the status wrapper are at most a packet. Assumes nothing.
-use Prim.Native.Nat.{ℕ, _-_, _≤_}
-use mathlib.Core.Path.{_≡_, refl, _∙_}
-use mathlib.Core.List.{List}
+use Prim.Native.Nat.{_≤_}
+use mathlib.Core.Path.{_≡_, refl}
 use native.Mathlib.Omega.{arith}
-use lib.ListN.{length, take, length-append}
-use lib.Seq.{take-at, take-append-le}
+use lib.ListN.{length}
 use Rattle.wire.specs.Numbers.{low, decimal}
-use Rattle.wire.specs.Packet.{packetOf}
 use Rattle.wire.specs.Slices.{zeros}
-use Rattle.wire.specs.declared.packet.Packet.{Packet}
-use Rattle.wire.proofs.Packets.{packet-is}
 use Rattle.scsi.specs.Reply.{replyData, senseData, inquiryData, modeData, capacityData, padded}
 use Rattle.scsi.specs.declared.reply.Reply as replies
 use Rattle.scsi.specs.declared.reply.Reply.the-variants as reply
@@ -19,7 +14,6 @@ use Rattle.usb.specs.Descriptor.{descriptorData, deviceDescriptor, configuratio
 use Rattle.usb.specs.declared.descriptor.Identity.{Identity}
 use Rattle.usb.specs.declared.descriptor.Descriptor.{Descriptor}
 use Rattle.usb.specs.declared.descriptor.Descriptor.the-variants as descriptor
-use Rattle.machine.specs.declared.record.Device.{Device}
 
 pub reply-long : (r : replies.Reply) → length (replyData r) ≤ 64
 unfolding senseData inquiryData modeData capacityData padded zeros low
@@ -40,20 +34,3 @@ descriptor-long descriptor.Serial i = omega arith
 pub csw-long : (c : Csw) → length (cswBytes c) ≡ 13
 unfolding cswBytes low
 csw-long c = refl
-
--- a short byte string by value
-pub record Held (k : Packet) (s : List ℕ) : Type 0 where
-  pub room : k .len ≤ length (k .bytes)
-  pub count : k .len ≡ length s
-  pub is : take (k .len) (k .bytes) ≡ s
-  pub front : (n : ℕ) → n ≤ length s → take n (k .bytes) ≡ take n s
-
-pub held : (k : Packet) (s : List ℕ) → k ≡ packetOf s → length s ≤ 64 → Held k s
-held k s e h =
-    let f = e ∙ packet-is s h in
-    record {
-      room = rw f (simp length-append (omega arith));
-      count = rw f;
-      is = rw f (take-at s (zeros (64 - length s)) (length s) refl);
-      front = λ n l. rw f (take-append-le n s (zeros (64 - length s)) l);
-    }

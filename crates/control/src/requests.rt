@@ -186,17 +186,17 @@ fn get_configuration(state: State, buffer: &mut [u8]) -> Moved
 
 fn get_descriptor(
     which: Descriptor,
-    length: u16,
+    wlength: u16,
     identity: Identity,
     state: State,
     buffer: &mut [u8],
 ) -> Moved
-    ensures { λ r. ⌜ ((p : List ℕ) → reacts (r .answer) (device identity (r .state) p) (now (buffer .exit)) ≡ perform (Request.GetDescriptor which length) (device identity state p) (now (buffer .entry))) ⌝ }
+    ensures { λ r. ⌜ ((p : List ℕ) → reacts (r .answer) (device identity (r .state) p) (now (buffer .exit)) ≡ perform (Request.GetDescriptor which wlength) (device identity state p) (now (buffer .entry))) ⌝ }
 {
     let packet = descriptor_bytes(which, identity);
     let bytes = packet.bytes;
     let size = packet.len;
-    let wanted = length as usize;
+    let wanted = wlength as usize;
     if wanted < size {
         return send(&bytes[..wanted], state, buffer);
     }
@@ -223,8 +223,8 @@ pub fn perform(
         Request::SetHalt { endpoint } => set_halt(endpoint, state),
         Request::MassStorageReset => mass_storage_reset(state, part),
         Request::GetMaxLun => send_configured(&[0x00], state, buffer),
-        Request::GetDescriptor { which, length } => {
-            get_descriptor(which, length, identity, state, buffer)
+        Request::GetDescriptor { which, wlength } => {
+            get_descriptor(which, wlength, identity, state, buffer)
         }
         Request::Stall => Moved {
             answer: Answer::Stall,

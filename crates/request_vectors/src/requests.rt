@@ -19,7 +19,7 @@ fn at(name: &[u8], endpoint: Endpoint) {
     }
 }
 
-fn descriptor(which: Descriptor, length: u16) {
+fn descriptor(which: Descriptor, wlength: u16) {
     match which {
         Descriptor::Device => text(b" get device descriptor"),
         Descriptor::Configuration => text(b" get configuration descriptor"),
@@ -28,7 +28,7 @@ fn descriptor(which: Descriptor, length: u16) {
         Descriptor::Product => text(b" get product string"),
         Descriptor::Serial => text(b" get serial string"),
     }
-    half(length);
+    half(wlength);
 }
 
 fn numbered(name: &[u8], value: u8) {
@@ -48,7 +48,7 @@ fn show(request: Request) {
         Request::SetHalt { endpoint } => at(b" set halt of", endpoint),
         Request::MassStorageReset => text(b" mass storage reset"),
         Request::GetMaxLun => text(b" get max lun"),
-        Request::GetDescriptor { which, length } => descriptor(which, length),
+        Request::GetDescriptor { which, wlength } => descriptor(which, wlength),
         Request::Stall => text(b" stall"),
     }
 }

@@ -22,7 +22,7 @@ abbrev pub Fields : Type 0
 Fields = ℕ → ℕ → ℕ → Request
 
 unfoldable pub isNoData : ℕ → ℕ → ℕ → ℕ → Bool
-isNoData most value index length = leb value most and eqb index 0 and eqb length 0
+isNoData most value index wlength = leb value most and eqb index 0 and eqb wlength 0
 
 -- "00 05 address 0..7F, 0, 0"
 unfoldable pub setAddress : Fields

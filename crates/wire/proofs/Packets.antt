@@ -4,10 +4,11 @@ use mathlib.Core.Path.{_≡_, refl, sym, ap, _∙_}
 use mathlib.Core.List.{List, _++_}
 use native.Mathlib.Omega.{arith}
 use native.Mathlib.Nat.{sub-zero, zero-sub, suc-sub-suc}
-use lib.ListN.{length, take, drop, length-replicate}
-use lib.Seq.{take-at}
+use lib.ListN.{length, take, drop, length-replicate, length-append}
+use lib.Seq.{take-at, take-append-le}
 use Rattle.wire.specs.Slices.{zeros, fits}
 use Rattle.wire.specs.Packet.{packetOf}
+use Rattle.wire.specs.declared.packet.Packet.{Packet}
 use Rattle.wire.proofs.Cases.{if-true}
 use Rattle.wire.proofs.Lists.{fits-yes, placed-yes}
 
@@ -33,5 +34,18 @@ packet-is s h =
     }
 
 -- what a packet holds
-pub packet-holds : (s : List ℕ) → length s ≤ 64 → take (packetOf s .len) (packetOf s .bytes) ≡ s
-packet-holds s h = rw (packet-is s h) (take-at s (zeros (64 - length s)) (length s) refl)
+pub record Held (k : Packet) (s : List ℕ) : Type 0 where
+  pub room : k .len ≤ length (k .bytes)
+  pub count : k .len ≡ length s
+  pub is : take (k .len) (k .bytes) ≡ s
+  pub front : (n : ℕ) → n ≤ length s → take n (k .bytes) ≡ take n s
+
+pub held : (k : Packet) (s : List ℕ) → k ≡ packetOf s → length s ≤ 64 → Held k s
+held k s e h =
+    let f = e ∙ packet-is s h in
+    record {
+      room = rw f (simp length-append (omega arith));
+      count = rw f;
+      is = rw f (take-at s (zeros (64 - length s)) (length s) refl);
+      front = λ n l. rw f (take-append-le n s (zeros (64 - length s)) l);
+    }

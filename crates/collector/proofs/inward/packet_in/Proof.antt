@@ -7,7 +7,8 @@ use Rattle.wire.specs.Slices.{fits}
 use Rattle.scsi.specs.Reply.{replyPacket}
 use Rattle.machine.specs.Bulk.{inStage, packetIn}
 use Rattle.collector.proofs.Running.{sending, replying}
-use Rattle.control.proofs.Lengths.{reply-long, held}
+use Rattle.wire.proofs.Packets.{held}
+use Rattle.control.proofs.Lengths.{reply-long}
 use borrow.Author.Needs.{needs}
 use Rattle.collector.proofs.inward.packet_in.Statement.{statement}
 use Rattle.collector.proofs.inward.packet_in.Tie as tie

@@ -5,7 +5,8 @@ use lib.ListN.{length, take, length-take}
 use lib.Seq.{take-all}
 use Rattle.machine.specs.Control.{perform}
 use Rattle.usb.specs.Descriptor.{descriptorData, descriptorPacket}
-use Rattle.control.proofs.Lengths.{held, descriptor-long}
+use Rattle.wire.proofs.Packets.{held}
+use Rattle.control.proofs.Lengths.{descriptor-long}
 use borrow.Author.Needs.{needs}
 use Rattle.control.proofs.requests.get_descriptor.Statement.{statement}
 use Rattle.control.proofs.requests.get_descriptor.Tie as tie
@@ -42,7 +43,7 @@ returns c =
     let h = held _ _ (c .before .before .before .before .before .before .before .descriptor-bytes .ensures) (descriptor-long (c .before .before .before .before .before .before .before .before .before .args .which) (c .before .before .before .before .before .before .before .before .before .args .identity)) in
     let r = h .room in
     let n = h .count in
-    simp (sym (h .front (c .before .before .before .before .before .before .before .before .before .args .length) (omega (arith, c .before .before .before .before .before .if1 .taken)))) (c .before .before .send .ensures _ p)
+    simp (sym (h .front (c .before .before .before .before .before .before .before .before .before .args .wlength) (omega (arith, c .before .before .before .before .before .if1 .taken)))) (c .before .before .send .ensures _ p)
 
 array-share-prefix-bytes-2 : tie.Need-array-share-prefix-bytes-2
 unfolding descriptorPacket
@@ -70,7 +71,7 @@ returns-2 c =
     let r = h .room in
     let n = h .count in
     let a = c .before .before .before .before .before .before .before .before .before .args in
-    let e : take (a .length) (descriptorData (a .which) (a .identity)) ≡ take (c .before .before .before .before .before .before .before .descriptor-bytes .result .len) (c .before .before .before .before .before .before .before .descriptor-bytes .result .bytes) = take-all (a .length) _ (omega (arith, c .before .before .before .before .before .if1 .left)) ∙ sym (h .is) in
+    let e : take (a .wlength) (descriptorData (a .which) (a .identity)) ≡ take (c .before .before .before .before .before .before .before .descriptor-bytes .result .len) (c .before .before .before .before .before .before .before .descriptor-bytes .result .bytes) = take-all (a .wlength) _ (omega (arith, c .before .before .before .before .before .if1 .left)) ∙ sym (h .is) in
     simp e (c .before .before .send2 .ensures _ p)
 
 pub get-descriptor-spec : {M : Type 1} → statement M

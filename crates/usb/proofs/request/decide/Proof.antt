@@ -158,7 +158,7 @@ returns-17 : tie.Need-returns-17
 unfolding decided requests
 returns-17 c =
     let a = c .before .args in
-    sym (ap (λ (f : Fields). f (a .value) (a .index) (a .length)) (look-rest (a .key) Unit requests (λ _ _ _. Stall) (c .match .rest)))
+    sym (ap (λ (f : Fields). f (a .value) (a .index) (a .wlength)) (look-rest (a .key) Unit requests (λ _ _ _. Stall) (c .match .rest)))
 
 pub decide-spec : {M : Type 1} → statement M
 decide-spec =

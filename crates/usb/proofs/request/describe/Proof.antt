@@ -59,7 +59,7 @@ returns-7 : tie.Need-returns-7
 unfolding getDescriptor descriptors
 returns-7 c =
     let a = c .before .args in
-    sym (ap (λ (f : ℕ → ℕ → Request). f (a .index) (a .length)) (look-rest (a .value) Unit descriptors (λ _ _. Stall) (c .match .rest)))
+    sym (ap (λ (f : ℕ → ℕ → Request). f (a .index) (a .wlength)) (look-rest (a .value) Unit descriptors (λ _ _. Stall) (c .match .rest)))
 
 pub describe-spec : {M : Type 1} → statement M
 describe-spec =
