@@ -13,7 +13,6 @@ use crate::quick::reads_on;
 use bot::csw::Csw;
 use bot::csw::Status;
 use bot::csw::csw_bytes;
-use collector::copying::put_packet;
 use collector::events::make;
 use collector::parts::control_parts;
 use collector::parts::in_parts;
@@ -30,6 +29,7 @@ use crecord::record::Given;
 use crecord::record::Record;
 use crecord::record::Told;
 use wire::slices::put;
+use wire::slices::put_packet;
 
 // What an event leaves, but for the part block, which it is lent.
 pub(crate) struct Turn {

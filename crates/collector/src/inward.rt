@@ -8,7 +8,6 @@ ghost use Rattle.machine.specs.Record.{device};
 ghost use Rattle.machine.specs.Outcome.{reacts};
 ghost use Rattle.machine.specs.Bulk.{afterStatus, onAsk, onStatus, packetIn, nextIn, handedState};
 ghost use Rattle.collector.specs.Parts.{Sound};
-use crate::copying::put_packet;
 use crate::outward::halt_at_end;
 use bot::csw::Csw;
 use bot::csw::Status;
@@ -23,6 +22,7 @@ use machine::record::State;
 use machine::record::Task;
 use scsi::reply::reply_bytes;
 use wire::slices::put;
+use wire::slices::put_packet;
 
 // What is left after a packet.
 fn rest(left: u32) -> u32

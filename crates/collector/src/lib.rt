@@ -2,7 +2,6 @@
 // specification machine (crate `machine`). Only the events of `events` pass the record whole; those of `parts`, and what
 // they call, take the small state by value and the block being gathered as a lent array.
 mod begin;
-pub mod copying;
 pub mod events;
 mod inward;
 mod outward;

@@ -11,7 +11,6 @@ ghost use Rattle.machine.specs.Bulk.{haltAtEnd, nextOut, onWrapper, onData, pac
 ghost use Rattle.collector.specs.Parts.{Sound, Gathering};
 use crate::begin::begin;
 use crate::begin::read_wrapper;
-use crate::copying::put_packet;
 use bot::csw::Status;
 use control::gate::Moved;
 use control::state::locked_state;
@@ -24,6 +23,7 @@ use machine::record::Task;
 use machine::wrapper::Wrapper;
 use scsi::sense::Sense;
 use wire::slices::put;
+use wire::slices::put_packet;
 
 // A broken wrapper locks the device.
 fn on_wrapper(state: State, packet: &[u8]) -> Moved

@@ -2,12 +2,12 @@
 use Prim.Native.Nat.{ℕ}
 use mathlib.Core.Path.{_≡_, sym, ap, _∙_}
 use mathlib.Core.List.{List}
 use Rattle.wire.specs.Slices.{zeros, placed}
 use Rattle.wire.proofs.Lists.{placed-whole}
 use Rattle.wire.proofs.Packets.{length-zeros}
 use borrow.Author.Needs.{needs}
-use Rattle.collector.proofs.copying.put_packet.Statement.{statement}
-use Rattle.collector.proofs.copying.put_packet.Tie as tie
+use Rattle.wire.proofs.slices.put_packet.Statement.{statement}
+use Rattle.wire.proofs.slices.put_packet.Tie as tie
 
 put-requires : tie.Need-put-requires
 put-requires c κs = search needs
