@@ -197,7 +197,7 @@ cbw-round-trip = record { written-is-read = cbw-there; read-is-written = cbw-aga
 
 -- ---- the status wrapper
 
-length-csw : (c : Csw) → length (cswBytes c) ≡ 13
+pub length-csw : (c : Csw) → length (cswBytes c) ≡ 13
 unfolding cswBytes low
 length-csw c = refl
 

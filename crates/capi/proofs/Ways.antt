@@ -15,6 +15,7 @@ use Rattle.wire.proofs.Cases.{both, and-true, if-true, if-false}
 use Rattle.bot.specs.Csw.{cswBytes}
 use Rattle.bot.specs.declared.csw.Csw.{Csw}
 use Rattle.bot.specs.declared.csw.Status.the-variants.{Passed}
+use Rattle.bot.proofs.RoundTrip.{length-csw}
 use Rattle.machine.specs.declared.answer.Answer.the-variants.{Data, Ack}
 use Rattle.machine.specs.declared.record.Stage.{Stage}
 use Rattle.machine.specs.declared.record.Stage.the-variants.{DataOut, DataIn, StatusDue}
@@ -24,9 +25,8 @@ use Rattle.machine.specs.Record.{unit, task, link, state, device, moved}
 use Rattle.machine.specs.Fits.{mostBlocks, sizeFits, addressFits, idleFits, lockFits, taskFits, fits, outFits, inFits}
 use Rattle.machine.specs.Bulk.{haltAtEnd, nextOut, gathered, storedBlock, onData, outStage, packetOut, handedOut, afterStatus, onStatus, inStage, packetIn, gatheredState, handedState, nextIn, storedState}
 use Rattle.machine.specs.Machine.{Out, check, step, told, out, beside, unlent, bulkIn, bulkOut, inOrder}
-use Rattle.control.proofs.Lengths.{csw-long}
-use Rattle.collector.proofs.Admission.{open-in, open-out}
-use Rattle.collector.proofs.Running.{asked}
+use Rattle.bulk.proofs.Admission.{open-in, open-out}
+use Rattle.bulk.proofs.Running.{asked}
 use Rattle.crecord.specs.declared.record.Given.{Given}
 use Rattle.crecord.specs.declared.record.Flat as flats
 use Rattle.crecord.specs.Flat.{noNumbers, formOf, flag, decodes, stateFrom, identityFrom, numbersOf, worth, flagsOf, flatWith, flatOf, answer, rec}
@@ -107,7 +107,7 @@ module _ (g : Given) (f : flats.Flat) (m : List ℕ) where
     passes-step p =
         let d = dev (StatusDue Passed) (f .residue) p in
         open-in d m b (simp (passes-fits, eq-eqb _ _ (w .free .whole), le-leb _ _ (w .room)))
-        ∙ ap (λ (n : ℕ). out (Data n) (device (identityFrom g) (afterStatus Passed (at (StatusDue Passed) (f .residue))) p) m (placed b 0 (cswBytes csw))) (csw-long csw)
+        ∙ ap (λ (n : ℕ). out (Data n) (device (identityFrom g) (afterStatus Passed (at (StatusDue Passed) (f .residue))) p) m (placed b 0 (cswBytes csw))) (length-csw csw)
 
     pub quick-status : (p : List ℕ) → onRecord (rec g f p) m (bulkIn b) ≡ left (answer 0 13) (rec g (ended f) p) m (placed b 0 (cswBytes csw))
     unfolding onRecord afterStatus moved flatOf flatWith numbersOf flagsOf worth if_then_else_ ended

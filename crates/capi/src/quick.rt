@@ -3,12 +3,12 @@
 ghost use mathlib.Core.Path.{_≡_};
 ghost use mathlib.Core.Bool.{true};
 ghost use Rattle.capi.specs.Ways.{Free, ReadsOn, Passes, Gathers};
-use control::fits::in_fits;
-use control::fits::number_fits;
-use control::fits::out_fits;
-use control::fits::size_fits;
 use crecord::record::Flat;
 use crecord::record::Given;
+use state::fits::in_fits;
+use state::fits::number_fits;
+use state::fits::out_fits;
+use state::fits::size_fits;
 
 // Configured, no pipe halted, over its medium.
 fn is_free(given: Given, flat: Flat, medium: usize) -> bool

@@ -7,13 +7,10 @@ ghost use Rattle.machine.specs.Making as making;
 ghost use Rattle.machine.specs.Machine.{out, told, step, busReset, bulkOut, bulkIn};
 ghost use Rattle.machine.specs.Machine as machines;
 ghost use Rattle.machine.specs.Record.{fresh, noDevice};
-use crate::parts::control_parts;
-use crate::parts::in_parts;
-use crate::parts::out_parts;
-use crate::parts::reset_parts;
-use control::fits::number_fits;
-use control::fits::size_fits;
-use control::state::no_task;
+use bulk::parts::in_parts;
+use bulk::parts::out_parts;
+use control::parts::control_parts;
+use control::parts::reset_parts;
 use machine::answer::Answer;
 use machine::answer::Refusal;
 use machine::record::Device;
@@ -21,6 +18,9 @@ use machine::record::Link;
 use machine::record::LogicalUnit;
 use machine::record::State;
 use scsi::sense::Sense;
+use state::fits::number_fits;
+use state::fits::size_fits;
+use state::states::no_task;
 use usb::descriptor::Identity;
 
 pub struct Outcome {

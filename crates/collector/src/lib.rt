@@ -1,8 +1,4 @@
-// The collector: making one over a lent medium, and the four bus events. Each public function is one equation with the
-// specification machine (crate `machine`). Only the events of `events` pass the record whole; those of `parts`, and what
-// they call, take the small state by value and the block being gathered as a lent array.
-mod begin;
+// The collector: making one over a lent medium, and the four bus events over the record whole. Each function is one
+// equation with the specification machine (crate `machine`). What the events do is in `control` and `bulk`, which take
+// the small state by value and the block being gathered as a lent array.
 pub mod events;
-mod inward;
-mod outward;
-pub mod parts;

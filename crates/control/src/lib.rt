@@ -1,6 +1,4 @@
-// What stands before and beside the bulk pipes: when a record fits (number 10), the checks before an event, the states
-// that events leave, and the control requests. Each function is one equation with the specification machine.
-pub mod fits;
-pub mod gate;
-pub mod requests;
-pub mod state;
+// Bus reset and control requests. Both events make their checks first; each is one equation with the specification
+// machine, for every input.
+pub mod parts;
+mod requests;

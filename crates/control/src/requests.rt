@@ -6,13 +6,13 @@ ghost use Rattle.usb.specs.declared.descriptor.Identity as identities;
 ghost use Rattle.machine.specs.Record.{device};
 ghost use Rattle.machine.specs.Outcome.{reacts, sends};
 ghost use Rattle.machine.specs.Control.{flag, haltIn, haltOut, needsConfigured, endpointStatus, clearHalt, setHalt, perform};
-use crate::gate::Moved;
-use crate::state::dropped_state;
-use crate::state::wipe;
-use crate::state::with_address;
-use crate::state::with_halts;
 use machine::answer::Answer;
 use machine::record::State;
+use state::gate::Moved;
+use state::states::dropped_state;
+use state::states::wipe;
+use state::states::with_address;
+use state::states::with_halts;
 use usb::descriptor::Descriptor;
 use usb::descriptor::Identity;
 use usb::descriptor::descriptor_bytes;
@@ -203,7 +203,7 @@ fn get_descriptor(
     send(&bytes[..size], state, buffer)
 }
 
-pub fn perform(
+pub(crate) fn perform(
     request: Request,
     identity: Identity,
     state: State,

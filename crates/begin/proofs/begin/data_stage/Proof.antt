@@ -1,0 +1,81 @@
+-- `data_stage` meets its contract. Assumes nothing.
+use native.Mathlib.Omega.{arith}
+use Rattle.wire.specs.Slices.{fits}
+use Rattle.machine.specs.Begin.{dataStage}
+use borrow.Author.Needs.{needs}
+use Rattle.begin.proofs.begin.data_stage.Statement.{statement}
+use Rattle.begin.proofs.begin.data_stage.Tie as tie
+
+enum-told : tie.Need-enum-told
+enum-told c = search needs
+
+enum-told-2 : tie.Need-enum-told-2
+enum-told-2 c = search needs
+
+enum-known-plan : tie.Need-enum-known-plan
+enum-known-plan c = search needs
+
+reply-of-requires : tie.Need-reply-of-requires
+reply-of-requires c κs = search needs
+
+cast-t13 : tie.Need-cast-t13
+cast-t13 c = search needs
+
+enum-known-plan-2 : tie.Need-enum-known-plan-2
+enum-known-plan-2 c = search needs
+
+mul-t14 : tie.Need-mul-t14
+mul-t14 c = let h = c .before .before .before .pre _ _ (c .before .plan2 .given .1) in record { fits = omega arith }
+
+cast-t15 : tie.Need-cast-t15
+cast-t15 c = search needs
+
+mul-t16 : tie.Need-mul-t16
+mul-t16 c = search needs
+
+enum-known-plan-3 : tie.Need-enum-known-plan-3
+enum-known-plan-3 c = search needs
+
+cast-t17 : tie.Need-cast-t17
+cast-t17 c = search needs
+
+returns : tie.Need-returns
+unfolding dataStage
+returns c = simp (c .enum-told .given .1)
+
+returns-2 : tie.Need-returns-2
+unfolding dataStage
+returns-2 c = simp (c .enum-told2 .given .1)
+
+returns-3 : tie.Need-returns-3
+unfolding dataStage
+returns-3 c = simp (c .before .before .plan .given .1, c .reply-of .ensures)
+
+returns-4 : tie.Need-returns-4
+unfolding dataStage
+returns-4 c = simp (c .before .plan2 .given .1)
+
+returns-5 : tie.Need-returns-5
+unfolding dataStage
+returns-5 c = simp (c .before .plan3 .given .1)
+
+pub data-stage-spec : {M : Type 1} → statement M
+data-stage-spec =
+    tie.close
+    (tie.spec
+    enum-told
+    enum-told-2
+    enum-known-plan
+    reply-of-requires
+    cast-t13
+    enum-known-plan-2
+    mul-t14
+    cast-t15
+    mul-t16
+    enum-known-plan-3
+    cast-t17
+    returns
+    returns-2
+    returns-3
+    returns-4
+    returns-5)

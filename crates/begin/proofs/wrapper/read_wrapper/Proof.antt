@@ -1,0 +1,88 @@
+-- `read_wrapper` meets its contract. Assumes nothing.
+use Prim.Native.Nat.{ℕ}
+use mathlib.Core.Path.{sym, ap, _∙_}
+use mathlib.Core.List.{List}
+use native.Mathlib.Omega.{arith}
+use borrow.Author.Tests.{le-leb, lt-leb, eq-eqb, ne-eqb}
+use Rattle.wire.specs.Choice.{if_then_else_, _and_}
+use Rattle.wire.proofs.Lists.{tail-is}
+use Rattle.machine.specs.Wrapper.{accepted, wrapperOf}
+use Rattle.scsi.specs.Command.{planOf}
+use Rattle.bot.proofs.Wrappers.{readable-long, read-readable, not-readable}
+use Rattle.scsi.specs.declared.command.Plan.{Plan}
+use Rattle.machine.specs.declared.wrapper.Wrapper.the-variants.{Good}
+use borrow.Author.Needs.{needs}
+use Rattle.begin.proofs.wrapper.read_wrapper.Statement.{statement}
+use Rattle.begin.proofs.wrapper.read_wrapper.Tie as tie
+
+read-header-requires : tie.Need-read-header-requires
+read-header-requires c κs = search needs
+
+enum-told : tie.Need-enum-told
+enum-told c = search needs
+
+enum-known-header : tie.Need-enum-known-header
+enum-known-header c = search needs
+
+returns : tie.Need-returns
+unfolding wrapperOf accepted _and_ if_then_else_
+returns c =
+    let t = read-readable _ _ _ (c .before .before .before .before .read-header .ensures) (c .before .before .header .given .1) in
+    simp (t .0, sym (t .1), ne-eqb _ _ (c .if1 .taken))
+
+byte-requires : tie.Need-byte-requires
+byte-requires c κs = search needs
+
+block-length-requires : tie.Need-block-length-requires
+block-length-requires c κs = search needs
+
+returns-2 : tie.Need-returns-2
+unfolding wrapperOf accepted _and_ if_then_else_
+returns-2 c =
+    let t = read-readable _ _ _ (c .before .before .before .before .before .before .before .read-header .ensures) (c .before .before .before .before .before .header .given .1) in
+    simp (t .0, sym (t .1), eq-eqb _ _ (c .before .before .before .if1 .left), sym (c .before .before .byte .ensures), sym (c .before .block-length .ensures), lt-leb _ _ (c .if2 .taken))
+
+sub-plan-of : tie.Need-sub-plan-of
+sub-plan-of c =
+    let t = read-readable _ _ _ (c .before .before .before .before .before .before .before .read-header .ensures) (c .before .before .before .before .before .header .given .1) in
+    let l = readable-long _ (t .0) in omega arith
+
+part-plan-of-start : tie.Need-part-plan-of-start
+part-plan-of-start c =
+    let t = read-readable _ _ _ (c .before .before .before .before .before .before .before .read-header .ensures) (c .before .before .before .before .before .header .given .1) in
+    let l = readable-long _ (t .0) in omega arith
+
+part-plan-of-end : tie.Need-part-plan-of-end
+part-plan-of-end c = search needs
+
+plan-of-requires : tie.Need-plan-of-requires
+plan-of-requires c κs = search needs
+
+returns-3 : tie.Need-returns-3
+unfolding wrapperOf accepted _and_ if_then_else_
+returns-3 c = simp (not-readable _ _ (c .before .before .read-header .ensures) (c .enum-told .given .1))
+
+returns-4 : tie.Need-returns-4
+unfolding wrapperOf accepted _and_ if_then_else_
+returns-4 c =
+    let t = read-readable _ _ _ (c .before .before .before .before .before .before .before .before .before .read-header .ensures) (c .before .before .before .before .before .before .before .header .given .1) in
+    simp (t .0, sym (t .1), eq-eqb _ _ (c .before .before .before .before .before .if1 .left), sym (c .before .before .before .before .byte .ensures), sym (c .before .before .before .block-length .ensures), le-leb _ _ (c .before .before .if2 .left))
+    (ap (λ (p : Plan). Good (c .before .before .before .before .before .before .before .header .given .0 .0) p) (c .plan-of .ensures ∙ ap (λ (l : List ℕ). planOf l (c .before .before .before .before .before .before .before .before .before .before .before .args .blocks)) (tail-is 15 (c .before .before .before .before .before .before .before .before .before .before .before .args .packet .now))))
+
+pub read-wrapper-spec : {M : Type 1} → statement M
+read-wrapper-spec =
+    tie.close
+    (tie.spec
+    read-header-requires
+    enum-told
+    enum-known-header
+    returns
+    byte-requires
+    block-length-requires
+    returns-2
+    sub-plan-of
+    part-plan-of-start
+    part-plan-of-end
+    plan-of-requires
+    returns-3
+    returns-4)

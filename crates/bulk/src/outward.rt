@@ -1,0 +1,181 @@
+// A bulk-out packet, once its checks are passed: a wrapper, or data for the block being gathered.
+ghost use mathlib.Core.Path.{_≡_};
+ghost use Prim.Native.Nat.{_≤_};
+ghost use Rattle.usb.specs.declared.descriptor.Identity.{Identity};
+ghost use Rattle.machine.specs.Fits.{mostBlocks};
+ghost use Rattle.machine.specs.Record.{device};
+ghost use Rattle.machine.specs.Outcome.{effects};
+ghost use Rattle.machine.specs.Bulk.{nextOut, onData, packetOut, cutState, gatheredState, storedState};
+ghost use Rattle.bulk.specs.Parts.{Sound, Gathering, toldOut};
+use crate::halt::halt_at_end;
+use begin::wrapper::on_wrapper;
+use bot::csw::Status;
+use machine::answer::Answer;
+use machine::record::Stage;
+use machine::record::State;
+use machine::record::Task;
+use scsi::sense::Sense;
+use state::gate::Moved;
+use state::states::moved;
+use state::states::wipe;
+use wire::slices::put;
+use wire::slices::put_packet;
+
+// Data of another length than 64: the command ends in a phase error.
+fn cut_state(state: State) -> State
+    ensures { λ r. ⌜ r ≡ cutState state ⌝ }
+{
+    let link = state.link;
+    let old = link.task;
+    let task = Task {
+        stage: Stage::StatusDue {
+            status: Status::PhaseError,
+        },
+        tag: old.tag,
+        announced: old.announced,
+        residue: old.residue,
+    };
+    let sense = Sense::DATA_PHASE;
+    moved(state, sense, link.haltin, true, task)
+}
+
+fn gathered_state(state: State, block: u32, left: u32, held: u32) -> State
+    requires { ⌜ held ≤ 448 ⌝ }
+    ensures { λ r. ⌜ r ≡ gatheredState state block left held ⌝ }
+{
+    let unit = state.unit;
+    let link = state.link;
+    let old = link.task;
+    let sense = unit.sense;
+    let task = Task {
+        stage: Stage::DataOut {
+            block,
+            left,
+            held: held + 64,
+        },
+        tag: old.tag,
+        announced: old.announced,
+        residue: old.residue,
+    };
+    moved(state, sense, link.haltin, link.haltout, task)
+}
+
+fn next_out(block: u32, left: u32) -> Stage
+    requires { ⌜ block ≤ mostBlocks ⌝ }
+    ensures { λ r. ⌜ r ≡ nextOut block left ⌝ }
+{
+    if left <= 1 {
+        return Stage::StatusDue {
+            status: Status::Passed,
+        };
+    }
+    Stage::DataOut {
+        block: block + 1,
+        left: left - 1,
+        held: 0,
+    }
+}
+
+fn stored_state(state: State, block: u32, left: u32) -> State
+    requires { ⌜ (block ≤ mostBlocks) × (512 ≤ state .link .task .residue) ⌝ }
+    ensures { λ r. ⌜ r ≡ storedState state block left ⌝ }
+{
+    let unit = state.unit;
+    let link = state.link;
+    let old = link.task;
+    let sense = unit.sense;
+    let residue = old.residue - 512;
+    let haltout = halt_at_end(left <= 1, residue, link.haltout);
+    let stage = next_out(block, left);
+    let task = Task {
+        stage,
+        tag: old.tag,
+        announced: old.announced,
+        residue,
+    };
+    moved(state, sense, link.haltin, haltout, task)
+}
+
+// Data for the block being gathered; a whole block is stored at its place.
+fn on_data(
+    state: State,
+    block: u32,
+    left: u32,
+    held: u32,
+    part: &mut [u8; 512],
+    medium: &mut [u8],
+    packet: &[u8],
+) -> Moved
+    requires { ⌜ Gathering state block left held (now medium) ⌝ }
+    ensures { λ r. ⌜ ((i : Identity) → effects (r .answer) (device i (r .state) (now (part .exit))) (now (medium .exit)) ≡ onData (device i state (now (part .entry))) (now (medium .entry)) block left held (now (packet .entry))) ⌝ }
+{
+    if packet.len() != 64 {
+        wipe(part);
+        return Moved {
+            answer: Answer::Ack,
+            state: cut_state(state),
+        };
+    }
+    put_packet(part, held as usize, packet);
+    if held + 64 < 512 {
+        return Moved {
+            answer: Answer::Ack,
+            state: gathered_state(state, block, left, held),
+        };
+    }
+    put(medium, 512 * (block as usize), part);
+    wipe(part);
+    Moved {
+        answer: Answer::Ack,
+        state: stored_state(state, block, left),
+    }
+}
+
+pub(crate) fn packet_out(
+    state: State,
+    part: &mut [u8; 512],
+    medium: &mut [u8],
+    packet: &[u8],
+) -> Moved
+    requires { ⌜ Sound state (now medium) ⌝ }
+    ensures { λ r. ⌜ ((i : Identity) → toldOut (effects (r .answer) (device i (r .state) (now (part .exit))) (now (medium .exit))) ≡ toldOut (packetOut (device i state (now (part .entry))) (now (medium .entry)) (now (packet .entry)))) ⌝ }
+{
+    let link = state.link;
+    let haltout = link.haltout;
+    let task = link.task;
+    let stage = task.stage;
+    if haltout {
+        return Moved {
+            answer: Answer::Stall,
+            state,
+        };
+    }
+    match stage {
+        Stage::DataOut { block, left, held } => {
+            if left == 0 {
+                return Moved {
+                    answer: Answer::Nak,
+                    state,
+                };
+            }
+            on_data(state, block, left, held, part, medium, packet)
+        }
+        Stage::Ready => on_wrapper(state, packet),
+        Stage::DataIn { place: _, left: _ } => Moved {
+            answer: Answer::Nak,
+            state,
+        },
+        Stage::ReplyIn {
+            reply: _,
+            place: _,
+            left: _,
+        } => Moved {
+            answer: Answer::Nak,
+            state,
+        },
+        Stage::StatusDue { status: _ } => Moved {
+            answer: Answer::Nak,
+            state,
+        },
+    }
+}

@@ -1,0 +1,81 @@
+-- `task_fits` meets its contract. Assumes nothing.
+use mathlib.Core.Path.{sym}
+use Rattle.machine.specs.Fits.{taskFits, outFits, inFits}
+use borrow.Author.Needs.{needs}
+use Rattle.state.proofs.fits.task_fits.Statement.{statement}
+use Rattle.state.proofs.fits.task_fits.Tie as tie
+
+enum-told : tie.Need-enum-told
+enum-told c = search needs
+
+enum-known-stage : tie.Need-enum-known-stage
+enum-known-stage c = search needs
+
+out-fits-requires : tie.Need-out-fits-requires
+out-fits-requires c κs = search needs
+
+enum-known-stage-2 : tie.Need-enum-known-stage-2
+enum-known-stage-2 c = search needs
+
+mul-in-fits : tie.Need-mul-in-fits
+mul-in-fits c = search needs
+
+in-fits-requires : tie.Need-in-fits-requires
+in-fits-requires c κs = search needs
+
+enum-known-stage-3 : tie.Need-enum-known-stage-3
+enum-known-stage-3 c = search needs
+
+reply-size-requires : tie.Need-reply-size-requires
+reply-size-requires c κs = search needs
+
+cast-in-fits : tie.Need-cast-in-fits
+cast-in-fits c = search needs
+
+in-fits-requires-2 : tie.Need-in-fits-requires-2
+in-fits-requires-2 c κs = search needs
+
+enum-told-2 : tie.Need-enum-told-2
+enum-told-2 c = search needs
+
+returns : tie.Need-returns
+unfolding taskFits outFits inFits
+returns c = simp (c .enum-told .given .1)
+
+returns-2 : tie.Need-returns-2
+unfolding taskFits outFits inFits
+returns-2 c = simp (c .before .before .stage .given .1) (c .out-fits .ensures)
+
+returns-3 : tie.Need-returns-3
+unfolding taskFits outFits inFits
+returns-3 c = simp (c .before .before .stage2 .given .1) (c .in-fits .ensures)
+
+returns-4 : tie.Need-returns-4
+unfolding taskFits outFits inFits
+returns-4 c =
+    simp (c .before .before .before .stage3 .given .1, sym (c .before .reply-size .ensures)) (c .in-fits2 .ensures)
+
+returns-5 : tie.Need-returns-5
+unfolding taskFits outFits inFits
+returns-5 c = simp (c .enum-told2 .given .1)
+
+pub task-fits-spec : {M : Type 1} → statement M
+task-fits-spec =
+    tie.close
+    (tie.spec
+    enum-told
+    enum-known-stage
+    out-fits-requires
+    enum-known-stage-2
+    mul-in-fits
+    in-fits-requires
+    enum-known-stage-3
+    reply-size-requires
+    cast-in-fits
+    in-fits-requires-2
+    enum-told-2
+    returns
+    returns-2
+    returns-3
+    returns-4
+    returns-5)
