@@ -1,6 +1,6 @@
 -- What the checks before a bulk event tell, and what it leaves where they end it and where it goes on. Assumes nothing.
 use Prim.Native.Nat.{ℕ, _*_}
-use mathlib.Core.Path.{_≡_}
+use mathlib.Core.Path.{_≡_, refl}
 use mathlib.Core.Bool.{Bool, true}
 use mathlib.Core.List.{List, []}
 use lib.Dec.{leb, eqb}
@@ -18,7 +18,7 @@ use Rattle.machine.specs.Machine.{passes, checks, where-lent, judged, judgedOut
 use Rattle.state.specs.declared.gate.Gate.{Gate}
 use Rattle.state.specs.declared.gate.Gate.the-variants.{Shut}
 use Rattle.state.specs.Gates.{ofGate, ofVerdict}
-use Rattle.state.proofs.Gates.{passed, ends-in, ends-out}
+use Rattle.state.proofs.Gates.{passed, ends-told}
 use Rattle.bulk.specs.Parts.{Sound}
 
 sound : (i : Identity) (s : State) (m : List ℕ) → fits i s ≡ true → length m ≡ 512 * s .unit .blocks → Sound s m
@@ -50,16 +50,18 @@ module _ (d : Device) (m : List ℕ) where
   sized = eqb (length m) (512 * d .state .unit .blocks)
 
   pub shut-out : (p : List ℕ) (g : Gate) (a : Answer) → g ≡ Shut a → ofGate g ≡ ofVerdict (inOrder fit sized true (leb (length p) 64) true (d .state .configured)) → told (out a d m []) ≡ told (step d m (bulkOut p))
-  unfolding step onBulkOut checks where-lent if_then_else_
-  shut-out p g a o e = ends-out g a d m (inOrder fit sized true (leb (length p) 64) true (d .state .configured)) (packetOut d m p) o e
+  unfolding step onBulkOut checks where-lent judgedOut if_then_else_
+  shut-out p g a s e =
+      ends-told g (inOrder fit sized true (leb (length p) 64) true (d .state .configured)) a d m [] (λ v. unlent (judgedOut v d m (packetOut d m p))) (λ f. refl) s e
 
   pub open-out : (p : List ℕ) → inOrder fit sized true (leb (length p) 64) true (d .state .configured) ≡ passes → step d m (bulkOut p) ≡ unlent (packetOut d m p)
   unfolding step onBulkOut checks inOrder where-lent judgedOut if_then_else_
   open-out p e = simp e
 
   pub shut-in : (b : List ℕ) (g : Gate) (a : Answer) → g ≡ Shut a → ofGate g ≡ ofVerdict (inOrder fit sized (leb 64 (length b)) true true (d .state .configured)) → told (out a d m b) ≡ told (step d m (bulkIn b))
-  unfolding step onBulkIn checks where-lent if_then_else_
-  shut-in b g a o e = ends-in g a d m (inOrder fit sized (leb 64 (length b)) true true (d .state .configured)) b (packetIn d m b) o e
+  unfolding step onBulkIn checks where-lent judged if_then_else_
+  shut-in b g a s e =
+      ends-told g (inOrder fit sized (leb 64 (length b)) true true (d .state .configured)) a d m b (λ v. beside m (judged v d b (packetIn d m b))) (λ f. refl) s e
 
   pub open-in : (b : List ℕ) → inOrder fit sized (leb 64 (length b)) true true (d .state .configured) ≡ passes → step d m (bulkIn b) ≡ beside m (packetIn d m b)
   unfolding step onBulkIn checks inOrder where-lent judged if_then_else_

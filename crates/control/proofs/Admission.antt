@@ -1,5 +1,5 @@
 -- What bus reset and a control request leave where their checks end them, and where they go on. Assumes nothing.
-use mathlib.Core.Path.{_≡_, sym, ap, _∙_}
+use mathlib.Core.Path.{_≡_, refl, sym, ap, _∙_}
 use mathlib.Core.Bool.{Bool, true}
 use mathlib.Core.List.{List, []}
 use Prim.Native.Nat.{ℕ}
@@ -18,15 +18,16 @@ use Rattle.machine.specs.Machine.{Verdict, passes, checks, where-lent, judged, 
 use Rattle.state.specs.declared.gate.Gate.{Gate}
 use Rattle.state.specs.declared.gate.Gate.the-variants.{Shut}
 use Rattle.state.specs.Gates.{ofGate, ofVerdict}
-use Rattle.state.proofs.Gates.{ends-in}
+use Rattle.state.proofs.Gates.{ends-told}
 
 module _ (d : Device) (m : List ℕ) where
   abbrev fit : Bool
   fit = fits (d .identity) (d .state)
 
   pub shut-reset : (g : Gate) (a : Answer) → g ≡ Shut a → ofGate g ≡ ofVerdict (inOrder fit true true true true true) → told (out a d m []) ≡ told (step d m busReset)
-  unfolding step onReset checks where-lent if_then_else_
-  shut-reset g a o e = ends-in g a d m (inOrder fit true true true true true) [] (reacts Ack (reset d) []) o e
+  unfolding step onReset checks where-lent judged if_then_else_
+  shut-reset g a s e =
+      ends-told g (inOrder fit true true true true true) a d m [] (λ v. beside m (judged v d [] (reacts Ack (reset d) []))) (λ f. refl) s e
 
   pub open-reset : inOrder fit true true true true true ≡ passes → step d m busReset ≡ out Ack (reset d) m []
   unfolding step onReset checks inOrder where-lent judged if_then_else_
@@ -37,8 +38,8 @@ module _ (d : Device) (m : List ℕ) where
     verdict = inOrder fit true (leb 64 (length b)) true (eqb (length s) 8) true
 
     pub shut-control : (g : Gate) (a : Answer) → g ≡ Shut a → ofGate g ≡ ofVerdict verdict → told (out a d m b) ≡ told (step d m (control s b))
-    unfolding step onControl checks where-lent if_then_else_
-    shut-control g a o e = ends-in g a d m verdict b (perform (requestOf s) d b) o e
+    unfolding step onControl checks where-lent judged if_then_else_
+    shut-control g a h e = ends-told g verdict a d m b (λ v. beside m (judged v d b (perform (requestOf s) d b))) (λ f. refl) h e
 
     performed : verdict ≡ passes → step d m (control s b) ≡ beside m (perform (requestOf s) d b)
     unfolding step onControl checks inOrder where-lent judged if_then_else_

@@ -1,6 +1,5 @@
 -- `perform` meets its contract. Assumes nothing.
-use mathlib.Core.Path.{sym}
-use Rattle.machine.specs.Control.{flag, perform}
+use Rattle.machine.specs.Control.{perform}
 use borrow.Author.Needs.{needs}
 use Rattle.control.proofs.requests.perform.Statement.{statement}
 use Rattle.control.proofs.requests.perform.Tie as tie
@@ -26,23 +25,11 @@ get-configuration-requires c κs = search needs
 enum-told-2 : tie.Need-enum-told-2
 enum-told-2 c = search needs
 
-flag-requires : tie.Need-flag-requires
-flag-requires c κs = search needs
-
-slice-aggregate-send : tie.Need-slice-aggregate-send
-slice-aggregate-send c = search needs
-
-send-requires : tie.Need-send-requires
-send-requires c κs = search needs
+send-flag-requires : tie.Need-send-flag-requires
+send-flag-requires c κs = search needs
 
 enum-told-3 : tie.Need-enum-told-3
 enum-told-3 c = search needs
-
-flag-requires-2 : tie.Need-flag-requires-2
-flag-requires-2 c κs = search needs
-
-slice-aggregate-send-configured : tie.Need-slice-aggregate-send-configured
-slice-aggregate-send-configured c = search needs
 
 send-configured-requires : tie.Need-send-configured-requires
 send-configured-requires c κs = search needs
@@ -74,11 +61,8 @@ mass-storage-reset-requires c κs = search needs
 enum-told-5 : tie.Need-enum-told-5
 enum-told-5 c = search needs
 
-slice-aggregate-send-configured-2 : tie.Need-slice-aggregate-send-configured-2
-slice-aggregate-send-configured-2 c = search needs
-
-send-configured-requires-2 : tie.Need-send-configured-requires-2
-send-configured-requires-2 c κs = search needs
+get-max-lun-requires : tie.Need-get-max-lun-requires
+get-max-lun-requires c κs = search needs
 
 enum-known-request-6 : tie.Need-enum-known-request-6
 enum-known-request-6 c = search needs
@@ -111,7 +95,7 @@ same-length-2 c = search needs
 returns-4 : tie.Need-returns-4
 unfolding perform
 returns-4 c =
-    simp (c .before .before .before .before .before .before .enum-told2 .given .1, sym (c .before .before .before .before .before .flag .ensures)) (c .before .before .send .ensures _ _)
+    simp (c .before .before .before .before .enum-told2 .given .1) (c .before .before .send-flag .ensures _ _)
 
 same-length-3 : tie.Need-same-length-3
 same-length-3 c = search needs
@@ -119,7 +103,7 @@ same-length-3 c = search needs
 returns-5 : tie.Need-returns-5
 unfolding perform
 returns-5 c =
-    simp (c .before .before .before .before .before .before .enum-told3 .given .1, sym (c .before .before .before .before .before .flag2 .ensures)) (c .before .before .send-configured .ensures _ _)
+    simp (c .before .before .before .before .enum-told3 .given .1) (c .before .before .send-configured .ensures _ _)
 
 same-length-4 : tie.Need-same-length-4
 same-length-4 c = search needs
@@ -147,7 +131,7 @@ same-length-5 c = search needs
 returns-10 : tie.Need-returns-10
 unfolding perform
 returns-10 c =
-    simp (c .before .before .before .before .before .enum-told5 .given .1) (c .before .before .send-configured2 .ensures _ _)
+    simp (c .before .before .before .before .enum-told5 .given .1) (c .before .before .get-max-lun .ensures _ _)
 
 same-length-6 : tie.Need-same-length-6
 same-length-6 c = search needs
@@ -172,12 +156,8 @@ perform-spec =
     enum-told
     get-configuration-requires
     enum-told-2
-    flag-requires
-    slice-aggregate-send
-    send-requires
+    send-flag-requires
     enum-told-3
-    flag-requires-2
-    slice-aggregate-send-configured
     send-configured-requires
     enum-known-request-3
     endpoint-status-requires
@@ -188,8 +168,7 @@ perform-spec =
     enum-told-4
     mass-storage-reset-requires
     enum-told-5
-    slice-aggregate-send-configured-2
-    send-configured-requires-2
+    get-max-lun-requires
     enum-known-request-6
     get-descriptor-requires
     enum-told-6

@@ -2,8 +2,8 @@
 use Rattle.wire.specs.Choice.{if_then_else_}
 use Rattle.machine.specs.Control.{perform}
 use borrow.Author.Needs.{needs}
-use Rattle.control.proofs.requests.get_configuration.Statement.{statement}
-use Rattle.control.proofs.requests.get_configuration.Tie as tie
+use Rattle.control.proofs.data.get_configuration.Statement.{statement}
+use Rattle.control.proofs.data.get_configuration.Tie as tie
 
 slice-aggregate-send : tie.Need-slice-aggregate-send
 slice-aggregate-send c = search needs

@@ -8,8 +8,8 @@ use Rattle.usb.specs.Descriptor.{descriptorData, descriptorPacket}
 use Rattle.wire.proofs.Packets.{held}
 use Rattle.control.proofs.Lengths.{descriptor-long}
 use borrow.Author.Needs.{needs}
-use Rattle.control.proofs.requests.get_descriptor.Statement.{statement}
-use Rattle.control.proofs.requests.get_descriptor.Tie as tie
+use Rattle.control.proofs.data.get_descriptor.Statement.{statement}
+use Rattle.control.proofs.data.get_descriptor.Tie as tie
 
 descriptor-bytes-requires : tie.Need-descriptor-bytes-requires
 descriptor-bytes-requires c κs = search needs

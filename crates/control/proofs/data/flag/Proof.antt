@@ -1,7 +1,7 @@
 -- `flag` meets its contract. Assumes nothing.
 use Rattle.machine.specs.Control.{flag}
-use Rattle.control.proofs.requests.flag.Statement.{statement}
-use Rattle.control.proofs.requests.flag.Tie as tie
+use Rattle.control.proofs.data.flag.Statement.{statement}
+use Rattle.control.proofs.data.flag.Tie as tie
 
 returns : tie.Need-returns
 unfolding flag

@@ -1,16 +1,16 @@
--- `halt_out` meets its contract. Assumes nothing.
+-- `halt_in` meets its contract. Assumes nothing.
 use mathlib.Core.Bool.{true}
 use Rattle.wire.proofs.Cases.{if-true, if-false}
-use Rattle.machine.specs.Control.{haltOut}
+use Rattle.machine.specs.Control.{haltIn}
 use borrow.Author.Needs.{needs}
-use Rattle.control.proofs.requests.halt_out.Statement.{statement}
-use Rattle.control.proofs.requests.halt_out.Tie as tie
+use Rattle.control.proofs.halts.halt_in.Statement.{statement}
+use Rattle.control.proofs.halts.halt_in.Tie as tie
 
 with-halts-requires : tie.Need-with-halts-requires
 with-halts-requires c κs = search needs
 
 returns : tie.Need-returns
-unfolding haltOut
+unfolding haltIn
 returns c =
     simp (if-true (c .before .before .before .args .state .link .locked) true (c .before .before .before .args .on) (c .before .if1 .taken)) (c .with-halts .ensures)
 
@@ -18,9 +18,9 @@ with-halts-requires-2 : tie.Need-with-halts-requires-2
 with-halts-requires-2 c κs = search needs
 
 returns-2 : tie.Need-returns-2
-unfolding haltOut
+unfolding haltIn
 returns-2 c =
     simp (if-false (c .before .before .before .args .state .link .locked) true (c .before .before .before .args .on) (c .before .if1 .left)) (c .with-halts2 .ensures)
 
-pub halt-out-spec : {M : Type 1} → statement M
-halt-out-spec = tie.close (tie.spec with-halts-requires returns with-halts-requires-2 returns-2)
+pub halt-in-spec : {M : Type 1} → statement M
+halt-in-spec = tie.close (tie.spec with-halts-requires returns with-halts-requires-2 returns-2)

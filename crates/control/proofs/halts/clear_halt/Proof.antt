@@ -1,9 +1,9 @@
--- `set_halt` meets its contract. Assumes nothing.
+-- `clear_halt` meets its contract. Assumes nothing.
 use mathlib.Core.Path.{sym}
-use Rattle.machine.specs.Control.{setHalt}
+use Rattle.machine.specs.Control.{clearHalt}
 use borrow.Author.Needs.{needs}
-use Rattle.control.proofs.requests.set_halt.Statement.{statement}
-use Rattle.control.proofs.requests.set_halt.Tie as tie
+use Rattle.control.proofs.halts.clear_halt.Statement.{statement}
+use Rattle.control.proofs.halts.clear_halt.Tie as tie
 
 enum-told : tie.Need-enum-told
 enum-told c = search needs
@@ -27,21 +27,21 @@ acked-requires-2 : tie.Need-acked-requires-2
 acked-requires-2 c κs = search needs
 
 returns : tie.Need-returns
-unfolding setHalt
+unfolding clearHalt
 returns c = λ i p b. simp (c .enum-told .given .1)
 
 returns-2 : tie.Need-returns-2
-unfolding setHalt
+unfolding clearHalt
 returns-2 c =
     λ i p b. simp (c .before .before .enum-told2 .given .1, sym (c .before .halt-in .ensures)) (c .acked .ensures i p b)
 
 returns-3 : tie.Need-returns-3
-unfolding setHalt
+unfolding clearHalt
 returns-3 c =
     λ i p b. simp (c .before .before .enum-told3 .given .1, sym (c .before .halt-out .ensures)) (c .acked2 .ensures i p b)
 
-pub set-halt-spec : {M : Type 1} → statement M
-set-halt-spec =
+pub clear-halt-spec : {M : Type 1} → statement M
+clear-halt-spec =
     tie.close
     (tie.spec
     enum-told

@@ -1,7 +1,7 @@
 -- `send` meets its contract. Assumes nothing.
 use borrow.Author.Needs.{needs}
-use Rattle.control.proofs.requests.send.Statement.{statement}
-use Rattle.control.proofs.requests.send.Tie as tie
+use Rattle.control.proofs.data.send.Statement.{statement}
+use Rattle.control.proofs.data.send.Tie as tie
 
 put-requires : tie.Need-put-requires
 put-requires c κs = search needs

@@ -1,9 +1,9 @@
--- `clear_halt` meets its contract. Assumes nothing.
+-- `set_halt` meets its contract. Assumes nothing.
 use mathlib.Core.Path.{sym}
-use Rattle.machine.specs.Control.{clearHalt}
+use Rattle.machine.specs.Control.{setHalt}
 use borrow.Author.Needs.{needs}
-use Rattle.control.proofs.requests.clear_halt.Statement.{statement}
-use Rattle.control.proofs.requests.clear_halt.Tie as tie
+use Rattle.control.proofs.halts.set_halt.Statement.{statement}
+use Rattle.control.proofs.halts.set_halt.Tie as tie
 
 enum-told : tie.Need-enum-told
 enum-told c = search needs
@@ -27,21 +27,21 @@ acked-requires-2 : tie.Need-acked-requires-2
 acked-requires-2 c κs = search needs
 
 returns : tie.Need-returns
-unfolding clearHalt
+unfolding setHalt
 returns c = λ i p b. simp (c .enum-told .given .1)
 
 returns-2 : tie.Need-returns-2
-unfolding clearHalt
+unfolding setHalt
 returns-2 c =
     λ i p b. simp (c .before .before .enum-told2 .given .1, sym (c .before .halt-in .ensures)) (c .acked .ensures i p b)
 
 returns-3 : tie.Need-returns-3
-unfolding clearHalt
+unfolding setHalt
 returns-3 c =
     λ i p b. simp (c .before .before .enum-told3 .given .1, sym (c .before .halt-out .ensures)) (c .acked2 .ensures i p b)
 
-pub clear-halt-spec : {M : Type 1} → statement M
-clear-halt-spec =
+pub set-halt-spec : {M : Type 1} → statement M
+set-halt-spec =
     tie.close
     (tie.spec
     enum-told

@@ -2,8 +2,8 @@
 use borrow.Author.Tests.{not-true, not-false}
 use Rattle.wire.specs.Choice.{if_then_else_}
 use Rattle.machine.specs.Control.{needsConfigured}
-use Rattle.control.proofs.requests.acked.Statement.{statement}
-use Rattle.control.proofs.requests.acked.Tie as tie
+use Rattle.control.proofs.halts.acked.Statement.{statement}
+use Rattle.control.proofs.halts.acked.Tie as tie
 
 returns : tie.Need-returns
 unfolding needsConfigured if_then_else_
