@@ -1,1 +1,1 @@
-pub mod Wrapper
+pub mod Near

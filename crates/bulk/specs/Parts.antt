@@ -1,4 +1,4 @@
--- The premises of the inner functions, which the events' checks establish, and what they promise of a packet.
+-- The premises of the inner functions, which the events' checks establish.
 use Prim.Native.Nat.{ℕ, _+_, _*_, _≤_, _<_}
 use mathlib.Core.Path.{_≡_}
 use mathlib.Core.Bool.{true}
@@ -6,8 +6,6 @@ use mathlib.Core.List.{List}
 use lib.ListN.{length}
 use Rattle.machine.specs.declared.record.State.{State}
 use Rattle.machine.specs.Fits.{mostBlocks, sizeFits, taskFits}
-use Rattle.machine.specs.Outcome.{Effect}
-use Rattle.machine.specs.Machine.{Told, told, unlent}
 
 -- A state whose task fits its unit, over the unit's medium.
 pub record Sound (s : State) (m : List ℕ) : Type 0 where
@@ -21,7 +19,3 @@ pub record Gathering (s : State) (block left held : ℕ) (m : List ℕ) : Type 0
   pub place : 512 * block + 512 ≤ length m
   pub room : held ≤ 448
   pub due : 512 ≤ s .link .task .residue
-
--- An effect by document 01's numbers.
-unfoldable pub toldOut : Effect → Told
-toldOut e = told (unlent e)

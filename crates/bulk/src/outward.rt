@@ -1,25 +1,49 @@
 // A bulk-out packet, once its checks are passed: a wrapper, or data for the block being gathered.
 ghost use mathlib.Core.Path.{_≡_};
-ghost use Prim.Native.Nat.{_≤_};
+ghost use mathlib.Core.Bool.{true};
+ghost use mathlib.Core.List.{List};
+ghost use Prim.Native.Nat.{ℕ, _≤_};
 ghost use Rattle.usb.specs.declared.descriptor.Identity.{Identity};
-ghost use Rattle.machine.specs.Fits.{mostBlocks};
+ghost use Rattle.machine.specs.Fits.{mostBlocks, sizeFits};
 ghost use Rattle.machine.specs.Record.{device};
 ghost use Rattle.machine.specs.Outcome.{effects};
-ghost use Rattle.machine.specs.Bulk.{nextOut, onData, packetOut, cutState, gatheredState, storedState};
-ghost use Rattle.bulk.specs.Parts.{Sound, Gathering, toldOut};
+ghost use Rattle.machine.specs.Wrapper.{wrapperOf};
+ghost use Rattle.machine.specs.Bulk.{onWrapper, nextOut, onData, packetOut, cutState, gatheredState, storedState};
+ghost use Rattle.bulk.specs.Parts.{Sound, Gathering};
 use crate::halt::halt_at_end;
-use begin::wrapper::on_wrapper;
+use begin::command::begin;
+use begin::wrapper::read_wrapper;
 use bot::csw::Status;
 use machine::answer::Answer;
 use machine::record::Stage;
 use machine::record::State;
 use machine::record::Task;
+use machine::wrapper::Wrapper;
 use scsi::sense::Sense;
 use state::gate::Moved;
+use state::states::locked_state;
 use state::states::moved;
 use state::states::wipe;
 use wire::slices::put;
 use wire::slices::put_packet;
+
+// A broken wrapper locks the device.
+fn on_wrapper(state: State, packet: &[u8]) -> Moved
+    requires { ⌜ sizeFits (state .unit .blocks) ≡ true ⌝ }
+    ensures { λ r. ⌜ ((i : Identity) (p m : List ℕ) → effects (r .answer) (device i (r .state) p) m ≡ onWrapper (wrapperOf (state .unit .blocks) (now (packet .entry))) (device i state p) m) ⌝ }
+{
+    let unit = state.unit;
+    match read_wrapper(packet, unit.blocks) {
+        Wrapper::Broken => Moved {
+            answer: Answer::Stall,
+            state: locked_state(state),
+        },
+        Wrapper::Good { header, plan } => Moved {
+            answer: Answer::Ack,
+            state: begin(header, plan, state),
+        },
+    }
+}
 
 // Data of another length than 64: the command ends in a phase error.
 fn cut_state(state: State) -> State
@@ -138,7 +162,7 @@ pub(crate) fn packet_out(
     packet: &[u8],
 ) -> Moved
     requires { ⌜ Sound state (now medium) ⌝ }
-    ensures { λ r. ⌜ ((i : Identity) → toldOut (effects (r .answer) (device i (r .state) (now (part .exit))) (now (medium .exit))) ≡ toldOut (packetOut (device i state (now (part .entry))) (now (medium .entry)) (now (packet .entry)))) ⌝ }
+    ensures { λ r. ⌜ ((i : Identity) → effects (r .answer) (device i (r .state) (now (part .exit))) (now (medium .exit)) ≡ packetOut (device i state (now (part .entry))) (now (medium .entry)) (now (packet .entry))) ⌝ }
 {
     let link = state.link;
     let haltout = link.haltout;

@@ -1,28 +1,11 @@
 -- `packet_out` meets its contract. Assumes nothing.
-use Prim.Native.Nat.{ℕ}
-use mathlib.Core.Path.{_≡_, ap, _∙_}
-use mathlib.Core.Bool.{true}
-use mathlib.Core.List.{List, []}
 use borrow.Author.Tests.{eq-eqb, ne-eqb}
 use Rattle.wire.specs.Choice.{if_then_else_}
-use Rattle.machine.specs.declared.answer.Answer.{Answer}
-use Rattle.machine.specs.declared.record.Device.{Device}
-use Rattle.machine.specs.Fits.{sizeFits}
-use Rattle.machine.specs.Outcome.{effects}
-use Rattle.machine.specs.Wrapper.{wrapperOf}
-use Rattle.machine.specs.Bulk.{onWrapper, outStage, packetOut}
-use Rattle.machine.specs.Machine.{out, told, unlent}
-use Rattle.begin.specs.Wrapper.{wrapperDue}
-use Rattle.begin.proofs.Accepting.{wrapper-due}
-use Rattle.bulk.specs.Parts.{toldOut}
+use Rattle.machine.specs.Bulk.{outStage, packetOut}
 use Rattle.bulk.proofs.Running.{gathering}
 use borrow.Author.Needs.{needs}
 use Rattle.bulk.proofs.outward.packet_out.Statement.{statement}
 use Rattle.bulk.proofs.outward.packet_out.Tie as tie
-
-wrapper-met : (a : Answer) (d e : Device) (m p : List ℕ) → told (out a d m []) ≡ told (unlent (wrapperDue e m p)) → sizeFits (e .state .unit .blocks) ≡ true → toldOut (effects a d m) ≡ toldOut (onWrapper (wrapperOf (e .state .unit .blocks) p) e m)
-unfolding toldOut
-wrapper-met a d e m p h s = h ∙ ap toldOut (wrapper-due e m p s)
 
 returns : tie.Need-returns
 unfolding packetOut outStage if_then_else_
@@ -61,12 +44,12 @@ same-length c = search needs
 returns-3 : tie.Need-returns-3
 unfolding packetOut outStage if_then_else_
 returns-3 c =
-    λ i. simp (c .before .before .before .before .before .before .before .before .before .if1 .left, c .before .before .before .before .before .before .before .stage .given .1, ne-eqb _ _ (c .before .before .before .before .before .if2 .left)) (ap toldOut (c .before .before .on-data .ensures i))
+    λ i. simp (c .before .before .before .before .before .before .before .before .before .if1 .left, c .before .before .before .before .before .before .before .stage .given .1, ne-eqb _ _ (c .before .before .before .before .before .if2 .left)) (c .before .before .on-data .ensures i)
 
 returns-4 : tie.Need-returns-4
 unfolding packetOut outStage if_then_else_
 returns-4 c =
-    λ i. simp (c .before .before .before .if1 .left, c .before .enum-told .given .1) (wrapper-met _ _ _ _ _ (c .on-wrapper .ensures i _ _) (c .before .before .before .before .before .before .before .before .pre .size))
+    λ i. simp (c .before .before .before .if1 .left, c .before .enum-told .given .1) (c .on-wrapper .ensures i _ _)
 
 returns-5 : tie.Need-returns-5
 unfolding packetOut outStage if_then_else_

@@ -1,9 +1,9 @@
 -- `out_parts` meets its contract. Assumes nothing.
 use mathlib.Core.Path.{sym, ap, _∙_}
 use Rattle.machine.specs.Record.{device}
-use Rattle.machine.specs.Machine.{told}
+use Rattle.machine.specs.Outcome.{Effect}
+use Rattle.machine.specs.Machine.{told, unlent}
 use Rattle.state.proofs.Gates.{goes-on}
-use Rattle.bulk.specs.Parts.{toldOut}
 use Rattle.bulk.proofs.Admission.{open-sound, shut-out, open-out}
 use borrow.Author.Needs.{needs}
 use Rattle.bulk.proofs.parts.out_parts.Statement.{statement}
@@ -41,10 +41,9 @@ same-length : tie.Need-same-length
 same-length c = search needs
 
 returns-2 : tie.Need-returns-2
-unfolding toldOut
 returns-2 c =
     let a = c .before .before .before .before .before .before .before .before .before .before .before .before .before .args in
-    c .before .before .packet-out .ensures (a .identity)
+    ap (λ (e : Effect). told (unlent e)) (c .before .before .packet-out .ensures (a .identity))
     ∙ ap told (sym (open-out (device (a .identity) (a .state) (a .part .now)) (a .medium .now) (a .packet .now) (goes-on _ _ (c .before .before .before .before .before .enum-told .given .1) (simp (c .before .before .before .before .before .before .before .before .fits2 .ensures) at (c .before .before .before .before .before .before .before .admit .ensures)))))
 
 pub out-parts-spec : {M : Type 1} → statement M

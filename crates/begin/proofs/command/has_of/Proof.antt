@@ -1,8 +1,8 @@
 -- `has_of` meets its contract. Assumes nothing.
 use Rattle.machine.specs.Begin.{hasOf}
 use borrow.Author.Needs.{needs}
-use Rattle.begin.proofs.begin.has_of.Statement.{statement}
-use Rattle.begin.proofs.begin.has_of.Tie as tie
+use Rattle.begin.proofs.command.has_of.Statement.{statement}
+use Rattle.begin.proofs.command.has_of.Tie as tie
 
 enum-told : tie.Need-enum-told
 enum-told c = search needs

@@ -1,8 +1,8 @@
 -- `sense_of` meets its contract. Assumes nothing.
 use Rattle.machine.specs.Begin.{senseOf}
 use borrow.Author.Needs.{needs}
-use Rattle.begin.proofs.begin.sense_of.Statement.{statement}
-use Rattle.begin.proofs.begin.sense_of.Tie as tie
+use Rattle.begin.proofs.command.sense_of.Statement.{statement}
+use Rattle.begin.proofs.command.sense_of.Tie as tie
 
 enum-known-plan : tie.Need-enum-known-plan
 enum-known-plan c = search needs

@@ -1,10 +1,22 @@
 -- `data_stage` meets its contract. Assumes nothing.
+use Prim.Native.Nat.{ℕ, _≤_}
+use mathlib.Core.Path.{_≡_, sym, ap, _∙_}
+use mathlib.Core.Bool.{true}
 use native.Mathlib.Omega.{arith}
+use borrow.Author.Tests.{leb-true}
 use Rattle.wire.specs.Slices.{fits}
+use Rattle.scsi.specs.declared.command.Plan.{Plan}
+use Rattle.scsi.specs.declared.command.Plan.the-variants.{Read}
 use Rattle.machine.specs.Begin.{dataStage}
+use Rattle.machine.specs.Fits.{mostBlocks}
+use Rattle.begin.specs.Near.{isNear}
 use borrow.Author.Needs.{needs}
-use Rattle.begin.proofs.begin.data_stage.Statement.{statement}
-use Rattle.begin.proofs.begin.data_stage.Tie as tie
+use Rattle.begin.proofs.command.data_stage.Statement.{statement}
+use Rattle.begin.proofs.command.data_stage.Tie as tie
+
+near-read : (p : Plan) (block count : ℕ) → isNear p ≡ true → p ≡ Read block count → block ≤ mostBlocks
+unfolding isNear
+near-read p block count n e = leb-true _ _ (sym (ap isNear e) ∙ n)
 
 enum-told : tie.Need-enum-told
 enum-told c = search needs
@@ -25,7 +37,7 @@ enum-known-plan-2 : tie.Need-enum-known-plan-2
 enum-known-plan-2 c = search needs
 
 mul-t14 : tie.Need-mul-t14
-mul-t14 c = let h = c .before .before .before .pre _ _ (c .before .plan2 .given .1) in record { fits = omega arith }
+mul-t14 c = let h = near-read _ _ _ (c .before .before .before .pre) (c .before .plan2 .given .1) in record { fits = omega arith }
 
 cast-t15 : tie.Need-cast-t15
 cast-t15 c = search needs

@@ -1,8 +1,8 @@
 -- `halts_out` meets its contract. Assumes nothing.
 use Rattle.machine.specs.Begin.{haltsOut}
 use borrow.Author.Needs.{needs}
-use Rattle.begin.proofs.begin.halts_out.Statement.{statement}
-use Rattle.begin.proofs.begin.halts_out.Tie as tie
+use Rattle.begin.proofs.command.halts_out.Statement.{statement}
+use Rattle.begin.proofs.command.halts_out.Tie as tie
 
 enum-told : tie.Need-enum-told
 enum-told c = search needs

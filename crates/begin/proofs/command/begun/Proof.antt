@@ -1,10 +1,10 @@
--- `begin` meets its contract. Assumes nothing.
+-- `begun` meets its contract. Assumes nothing.
 use mathlib.Core.Path.{sym}
 use Rattle.machine.specs.Record.{moved}
 use Rattle.machine.specs.Begin.{sensed, staged, begunBy, begun}
 use borrow.Author.Needs.{needs}
-use Rattle.begin.proofs.begin.begin.Statement.{statement}
-use Rattle.begin.proofs.begin.begin.Tie as tie
+use Rattle.begin.proofs.command.begun.Statement.{statement}
+use Rattle.begin.proofs.command.begun.Tie as tie
 
 host-of-requires : tie.Need-host-of-requires
 host-of-requires c κs = search needs
@@ -35,8 +35,8 @@ unfolding begun begunBy
 returns c =
     simp (sym (c .before .before .before .before .before .before .before .host-of .ensures), sym (c .before .before .before .before .before .before .has-of .ensures), sym (c .before .before .before .before .before .case-of .ensures), sym (c .before .before .before .before .sensed .ensures), sym (c .before .before .before .halts-in .ensures), sym (c .before .before .halts-out .ensures), sym (c .before .staged .ensures)) (c .moved .ensures)
 
-pub begin-spec : {M : Type 1} → statement M
-begin-spec =
+pub begun-spec : {M : Type 1} → statement M
+begun-spec =
     tie.close
     (tie.spec
     host-of-requires

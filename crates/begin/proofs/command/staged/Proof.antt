@@ -1,8 +1,8 @@
 -- `staged` meets its contract. Assumes nothing.
 use Rattle.machine.specs.Begin.{staged}
 use borrow.Author.Needs.{needs}
-use Rattle.begin.proofs.begin.staged.Statement.{statement}
-use Rattle.begin.proofs.begin.staged.Tie as tie
+use Rattle.begin.proofs.command.staged.Statement.{statement}
+use Rattle.begin.proofs.command.staged.Tie as tie
 
 enum-told : tie.Need-enum-told
 enum-told c = search needs

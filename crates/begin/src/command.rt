@@ -1,8 +1,9 @@
 // The command of an accepted wrapper begins: its plan and the announced length decide sense, halts and stage.
+ghost use mathlib.Core.Bool.{true};
 ghost use mathlib.Core.Path.{_≡_};
 ghost use Rattle.machine.specs.Begin.{hostOf, hasOf, senseOf, ownStatus, replyOf, dataStage, firstStage};
 ghost use Rattle.machine.specs.Begin.{haltsIn, haltsOut, sensed, staged, begun};
-ghost use Rattle.begin.specs.Wrapper.{Near};
+ghost use Rattle.begin.specs.Near.{isNear, begunNear};
 use bot::cbw::Header;
 use bot::csw::Status;
 use cases::Ending;
@@ -11,6 +12,7 @@ use cases::Pipe;
 use cases::Transfer;
 use cases::case_of;
 use machine::record::LogicalUnit;
+use machine::record::MOST_BLOCKS;
 use machine::record::Stage;
 use machine::record::State;
 use machine::record::Task;
@@ -83,7 +85,7 @@ fn reply_of(kind: ReplyKind, unit: LogicalUnit) -> Reply
 }
 
 fn data_stage(plan: Plan, unit: LogicalUnit) -> Stage
-    requires { ⌜ Near plan ⌝ }
+    requires { ⌜ isNear plan ≡ true ⌝ }
     ensures { λ r. ⌜ r ≡ dataStage plan unit ⌝ }
 {
     match plan {
@@ -111,7 +113,7 @@ fn data_stage(plan: Plan, unit: LogicalUnit) -> Stage
 }
 
 fn first_stage(moves: Transfer, plan: Plan, unit: LogicalUnit) -> Stage
-    requires { ⌜ Near plan ⌝ }
+    requires { ⌜ isNear plan ≡ true ⌝ }
     ensures { λ r. ⌜ r ≡ firstStage moves plan unit ⌝ }
 {
     match moves {
@@ -161,7 +163,7 @@ fn sensed(ending: Ending, plan: Plan, found: Sense) -> Sense
 }
 
 fn staged(ending: Ending, moves: Transfer, plan: Plan, unit: LogicalUnit) -> Stage
-    requires { ⌜ Near plan ⌝ }
+    requires { ⌜ isNear plan ≡ true ⌝ }
     ensures { λ r. ⌜ r ≡ staged ending moves plan unit ⌝ }
 {
     match ending {
@@ -172,8 +174,8 @@ fn staged(ending: Ending, moves: Transfer, plan: Plan, unit: LogicalUnit) -> Sta
     }
 }
 
-pub(crate) fn begin(header: Header, plan: Plan, state: State) -> State
-    requires { ⌜ Near plan ⌝ }
+fn begun(header: Header, plan: Plan, state: State) -> State
+    requires { ⌜ isNear plan ≡ true ⌝ }
     ensures { λ r. ⌜ r ≡ begun header plan state ⌝ }
 {
     let unit = state.unit;
@@ -194,4 +196,26 @@ pub(crate) fn begin(header: Header, plan: Plan, state: State) -> State
         residue: header.announced,
     };
     moved(state, sense, haltin, haltout, task)
+}
+
+fn is_near(plan: Plan) -> bool
+    ensures { λ r. ⌜ r ≡ isNear plan ⌝ }
+{
+    match plan {
+        Plan::Failed(_) => true,
+        Plan::Nothing => true,
+        Plan::Reply { kind: _, size: _ } => true,
+        Plan::Read { block, count: _ } => block <= MOST_BLOCKS,
+        Plan::Write { block: _, count: _ } => true,
+    }
+}
+
+// The state once the command is accepted. No unit has a plan that is not near; one leaves the state as it was.
+pub fn begin(header: Header, plan: Plan, state: State) -> State
+    ensures { λ r. ⌜ r ≡ begunNear header plan state ⌝ }
+{
+    if !is_near(plan) {
+        return state;
+    }
+    begun(header, plan, state)
 }

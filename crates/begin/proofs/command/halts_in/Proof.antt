@@ -1,8 +1,8 @@
 -- `halts_in` meets its contract. Assumes nothing.
 use Rattle.machine.specs.Begin.{haltsIn}
 use borrow.Author.Needs.{needs}
-use Rattle.begin.proofs.begin.halts_in.Statement.{statement}
-use Rattle.begin.proofs.begin.halts_in.Tie as tie
+use Rattle.begin.proofs.command.halts_in.Statement.{statement}
+use Rattle.begin.proofs.command.halts_in.Tie as tie
 
 enum-told : tie.Need-enum-told
 enum-told c = search needs

@@ -1,8 +1,8 @@
 -- `sensed` meets its contract. Assumes nothing.
 use Rattle.machine.specs.Begin.{sensed}
 use borrow.Author.Needs.{needs}
-use Rattle.begin.proofs.begin.sensed.Statement.{statement}
-use Rattle.begin.proofs.begin.sensed.Tie as tie
+use Rattle.begin.proofs.command.sensed.Statement.{statement}
+use Rattle.begin.proofs.command.sensed.Tie as tie
 
 enum-told : tie.Need-enum-told
 enum-told c = search needs

@@ -1,8 +1,8 @@
 -- `reply_of` meets its contract. Assumes nothing.
 use Rattle.machine.specs.Begin.{replyOf}
 use borrow.Author.Needs.{needs}
-use Rattle.begin.proofs.begin.reply_of.Statement.{statement}
-use Rattle.begin.proofs.begin.reply_of.Tie as tie
+use Rattle.begin.proofs.command.reply_of.Statement.{statement}
+use Rattle.begin.proofs.command.reply_of.Tie as tie
 
 enum-told : tie.Need-enum-told
 enum-told c = search needs

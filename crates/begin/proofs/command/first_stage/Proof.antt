@@ -1,8 +1,8 @@
 -- `first_stage` meets its contract. Assumes nothing.
 use Rattle.machine.specs.Begin.{firstStage}
 use borrow.Author.Needs.{needs}
-use Rattle.begin.proofs.begin.first_stage.Statement.{statement}
-use Rattle.begin.proofs.begin.first_stage.Tie as tie
+use Rattle.begin.proofs.command.first_stage.Statement.{statement}
+use Rattle.begin.proofs.command.first_stage.Tie as tie
 
 enum-told : tie.Need-enum-told
 enum-told c = search needs

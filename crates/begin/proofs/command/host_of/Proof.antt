@@ -1,8 +1,8 @@
 -- `host_of` meets its contract. Assumes nothing.
 use Rattle.wire.specs.Choice.{if_then_else_}
 use Rattle.machine.specs.Begin.{hostOf}
-use Rattle.begin.proofs.begin.host_of.Statement.{statement}
-use Rattle.begin.proofs.begin.host_of.Tie as tie
+use Rattle.begin.proofs.command.host_of.Statement.{statement}
+use Rattle.begin.proofs.command.host_of.Tie as tie
 
 returns : tie.Need-returns
 unfolding hostOf if_then_else_
