@@ -1,10 +1,11 @@
 -- What is printed of an answer goes by its number and count: what the collector's contracts give. Assumes nothing.
 use Prim.Native.Nat.{ℕ, _≤_}
 use mathlib.Core.Path.{_≡_, refl, sym, ap, subst, _∙_}
-use mathlib.Core.List.{List, _++_}
+use mathlib.Core.List.{List, [], _++_}
 use native.Mathlib.Omega.{arith}
 use lib.Dec.{eqb}
-use lib.ListN.{length, length-append}
+use lib.ListN.{length, take, length-append}
+use lib.Seq.{take-all, length-take-le}
 use Rattle.wire.specs.Choice.{if_then_else_}
 use Rattle.wire.specs.Texts.{ascii}
 use Rattle.machine.specs.declared.answer.Answer.{Answer}
@@ -13,10 +14,11 @@ use Rattle.machine.specs.declared.answer.Refusal.the-variants as refusal
 use Rattle.machine.specs.declared.record.Device.{Device}
 use Rattle.machine.specs.Answer.{numberOf, countOf}
 use Rattle.machine.specs.Machine.{Out, out, Told, told}
+use Rattle.player.specs.declared.turns.Ran.{Ran}
 use Rattle.player.specs.declared.turns.Turn.{Turn}
 use Rattle.player.specs.Writing.{Wrote}
 use Rattle.player.specs.Print.{numeral, space, newline, dataText, refusedText, answerText, line}
-use Rattle.player.specs.Turns.{Turned}
+use Rattle.player.specs.Turns.{Ends, Turned}
 use Rattle.player.proofs.Writes.{wrote-as, numeral-length, answer-length}
 
 abbrev byNumber : ℕ → ℕ → List ℕ → List ℕ
@@ -75,3 +77,20 @@ turned a d m b o k before at after end e h w = record {
 
 pub turned-as : (o p : Out) (k : ℕ) (before : List ℕ) (at : ℕ) (after m : List ℕ) (t : Turn) → o ≡ p → Turned o k before at after m t → Turned p k before at after m t
 turned-as o p k before at after m t e w = subst (λ (q : Out). Turned q k before at after m t) e w
+
+-- an event ended, its buffer lent whole
+pub ends-whole : (a : Answer) (d : Device) (b m : List ℕ) (o : Out) → length b ≡ 64 → told (out a d m b) ≡ told o
+    → Ends (record { answer = a; device = d; buffer = b; lent = 64 }) m o
+ends-whole a d b m o h e = record { told = ap (λ (l : List ℕ). told (out a d m l)) (take-all 64 b (omega arith)) ∙ e; lent = omega arith; size = omega arith }
+
+-- no buffer was lent
+pub ends-none : (a : Answer) (d : Device) (b m : List ℕ) (o : Out) → length b ≡ 64 → told (out a d m []) ≡ told o
+    → Ends (record { answer = a; device = d; buffer = b; lent = 0 }) m o
+ends-none a d b m o h e = record { told = e; lent = omega arith; size = omega arith }
+
+-- what is printed of it is at most 64 bytes
+pub few-lent : (r : Ran) (m : List ℕ) (o : Out) → Ends r m o → length (take (r .lent) (r .buffer)) ≤ 64
+few-lent r m o w = let l = length-take-le (r .lent) (r .buffer) (w .lent) in let a = w .lent in let b = w .size in omega arith
+
+pub ends-as : (r : Ran) (m : List ℕ) (o p : Out) → o ≡ p → Ends r m o → Ends r m p
+ends-as r m o p e w = subst (Ends r m) e w

@@ -2,10 +2,18 @@
 use Prim.Native.Nat.{ℕ, _+_, _≤_}
 use mathlib.Core.Path.{_≡_}
 use mathlib.Core.List.{List}
-use Rattle.machine.specs.Machine.{Out}
+use lib.ListN.{length, take}
+use Rattle.machine.specs.Machine.{Out, out, told}
+use Rattle.player.specs.declared.turns.Ran.{Ran}
 use Rattle.player.specs.declared.turns.Turn.{Turn}
 use Rattle.player.specs.Writing.{Wrote}
 use Rattle.player.specs.Print.{line}
+
+-- The machine's outcome o, by its number, over the medium that is left.
+pub record Ends (r : Ran) (store : List ℕ) (o : Out) : Type 0 where
+  pub told : told (out (r .answer) (r .device) store (take (r .lent) (r .buffer))) ≡ told o
+  pub lent : r .lent ≤ length (r .buffer)
+  pub size : length (r .buffer) ≤ 64
 
 -- The machine's outcome o is left, and its line was written from a place on.
 pub record Turned (o : Out) (number : ℕ) (before : List ℕ) (at : ℕ) (after store : List ℕ) (t : Turn) : Type 0 where

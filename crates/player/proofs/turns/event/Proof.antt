@@ -3,7 +3,7 @@ use mathlib.Core.Path.{sym, ap}
 use Rattle.machine.specs.Machine.{step}
 use Rattle.recording.specs.declared.cursor.Kind.{Kind}
 use Rattle.recording.specs.Format.{eventOf}
-use Rattle.player.proofs.Answers.{turned-as}
+use Rattle.player.proofs.Answers.{ends-as}
 use borrow.Author.Needs.{needs}
 use Rattle.player.proofs.turns.event.Statement.{statement}
 use Rattle.player.proofs.turns.event.Tie as tie
@@ -38,46 +38,31 @@ enum-told-5 c = search needs
 reset-requires-2 : tie.Need-reset-requires-2
 reset-requires-2 c κs = search needs
 
+returns : tie.Need-returns
+unfolding eventOf
+returns c = let a = c .before .before .before .before .before .args in ends-as _ _ _ _ (sym (ap (λ (k : Kind). step (a .device) (a .medium .now) (eventOf k (a .body .now))) (c .before .enum-told .given .1))) (c .reset .ensures (a .medium .now))
+
+returns-2 : tie.Need-returns-2
+unfolding eventOf
+returns-2 c = let a = c .before .before .before .before .before .args in ends-as _ _ _ _ (sym (ap (λ (k : Kind). step (a .device) (a .medium .now) (eventOf k (a .body .now))) (c .before .enum-told2 .given .1))) (c .request .ensures (a .medium .now))
+
 same-length : tie.Need-same-length
 same-length c = search needs
 
-returns : tie.Need-returns
+returns-3 : tie.Need-returns-3
 unfolding eventOf
-returns c = let a = c .before .before .before .before .before .before .before .before .before .args in turned-as _ _ _ _ _ _ _ _ (sym (ap (λ (k : Kind). step (a .device) (a .medium .now) (eventOf k (a .body .now))) (c .before .before .before .before .enum-told .given .1))) (c .before .before .reset .ensures (a .medium .now))
+returns-3 c = let a = c .before .before .before .before .before .before .before .before .args in ends-as _ _ _ _ (sym (ap (λ (k : Kind). step (a .device) (a .medium .now) (eventOf k (a .body .now))) (c .before .before .before .before .enum-told3 .given .1))) (c .before .before .packet .ensures)
 
 same-length-2 : tie.Need-same-length-2
 same-length-2 c = search needs
 
-returns-2 : tie.Need-returns-2
-unfolding eventOf
-returns-2 c = let a = c .before .before .before .before .before .before .before .before .before .args in turned-as _ _ _ _ _ _ _ _ (sym (ap (λ (k : Kind). step (a .device) (a .medium .now) (eventOf k (a .body .now))) (c .before .before .before .before .enum-told2 .given .1))) (c .before .before .request .ensures (a .medium .now))
-
-same-length-3 : tie.Need-same-length-3
-same-length-3 c = search needs
-
-same-length-4 : tie.Need-same-length-4
-same-length-4 c = search needs
-
-returns-3 : tie.Need-returns-3
-unfolding eventOf
-returns-3 c = let a = c .before .before .before .before .before .before .before .before .before .before .before .before .args in turned-as _ _ _ _ _ _ _ _ (sym (ap (λ (k : Kind). step (a .device) (a .medium .now) (eventOf k (a .body .now))) (c .before .before .before .before .before .before .before .enum-told3 .given .1))) (c .before .before .before .before .packet .ensures)
-
-same-length-5 : tie.Need-same-length-5
-same-length-5 c = search needs
-
-same-length-6 : tie.Need-same-length-6
-same-length-6 c = search needs
-
 returns-4 : tie.Need-returns-4
 unfolding eventOf
-returns-4 c = let a = c .before .before .before .before .before .before .before .before .before .before .args in turned-as _ _ _ _ _ _ _ _ (sym (ap (λ (k : Kind). step (a .device) (a .medium .now) (eventOf k (a .body .now))) (c .before .before .before .before .before .enum-told4 .given .1))) (c .before .before .ask .ensures)
-
-same-length-7 : tie.Need-same-length-7
-same-length-7 c = search needs
+returns-4 c = let a = c .before .before .before .before .before .before .args in ends-as _ _ _ _ (sym (ap (λ (k : Kind). step (a .device) (a .medium .now) (eventOf k (a .body .now))) (c .before .before .enum-told4 .given .1))) (c .ask .ensures)
 
 returns-5 : tie.Need-returns-5
 unfolding eventOf
-returns-5 c = let a = c .before .before .before .before .before .before .before .before .before .args in turned-as _ _ _ _ _ _ _ _ (sym (ap (λ (k : Kind). step (a .device) (a .medium .now) (eventOf k (a .body .now))) (c .before .before .before .before .enum-told5 .given .1))) (c .before .before .reset2 .ensures (a .medium .now))
+returns-5 c = let a = c .before .before .before .before .before .args in ends-as _ _ _ _ (sym (ap (λ (k : Kind). step (a .device) (a .medium .now) (eventOf k (a .body .now))) (c .before .enum-told5 .given .1))) (c .reset2 .ensures (a .medium .now))
 
 pub event-spec : {M : Type 1} → statement M
 event-spec =
@@ -93,15 +78,10 @@ event-spec =
     ask-requires
     enum-told-5
     reset-requires-2
-    same-length
     returns
-    same-length-2
     returns-2
-    same-length-3
-    same-length-4
+    same-length
     returns-3
-    same-length-5
-    same-length-6
+    same-length-2
     returns-4
-    same-length-7
     returns-5)

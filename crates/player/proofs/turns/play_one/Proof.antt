@@ -1,12 +1,13 @@
 -- `play_one` meets its contract. Assumes nothing.
 use Prim.Native.Nat.{ℕ, _+_, _-_}
-use mathlib.Core.Path.{_≡_, ap}
+use mathlib.Core.Path.{_≡_, sym, ap}
 use native.Mathlib.Omega.{arith}
 use lib.ListN.{take, drop}
-use borrow.Author.Needs.{needs}
+use lib.Seq.{length-take-le}
 use Rattle.machine.specs.Machine.{step}
 use Rattle.recording.specs.Format.{eventOf}
-use Rattle.player.proofs.Answers.{turned-as}
+use Rattle.player.proofs.Answers.{turned, turned-as, few-lent}
+use borrow.Author.Needs.{needs}
 use Rattle.player.proofs.turns.play_one.Statement.{statement}
 use Rattle.player.proofs.turns.play_one.Tie as tie
 
@@ -22,11 +23,20 @@ part-event-start c = search needs
 part-event-end : tie.Need-part-event-end
 part-event-end c = search needs
 
-add-event : tie.Need-add-event
-add-event c = search needs
-
 event-requires : tie.Need-event-requires
 event-requires c κs = search needs
+
+add-line : tie.Need-add-line
+add-line c = search needs
+
+array-share-prefix-buffer : tie.Need-array-share-prefix-buffer
+array-share-prefix-buffer c = c .before .before .before .before .before .event .ensures .lent
+
+slice-aggregate-line : tie.Need-slice-aggregate-line
+slice-aggregate-line c = sym (length-take-le _ _ (c .before .before .before .before .before .before .event .ensures .lent))
+
+line-requires : tie.Need-line-requires
+line-requires c κs = let few = few-lent _ _ _ (c .before .before .before .before .before .before .event .ensures) in (omega arith, few)
 
 same-length : tie.Need-same-length
 same-length c = search needs
@@ -36,9 +46,11 @@ same-length-2 c = search needs
 
 returns : tie.Need-returns
 returns c =
-    let a = c .before .before .before .before .before .before .before .before .before .before .before .before .before .args in
+    let a = c .before .before .before .before .before .before .before .before .before .before .before .before .before .before .before .before .before .args in
+    let r = c .before .before .before .before .before .before .before .before .before .event in
     let n : a .body + a .r .len - a .body ≡ a .r .len = omega arith in
-    turned-as _ _ _ _ _ _ _ _ (ap (λ (k : ℕ). step (a .turn .device) (a .medium .now) (eventOf (a .r .kind) (take k (drop (a .body) (a .input .now))))) n) (c .before .before .before .before .event .ensures)
+    turned-as _ _ _ _ _ _ _ _ (ap (λ (k : ℕ). step (a .turn .device) (a .medium .now) (eventOf (a .r .kind) (take k (drop (a .body) (a .input .now))))) n)
+    (turned (r .result .answer) (r .result .device) _ (take (r .result .lent) (r .result .buffer)) _ _ _ _ _ _ (r .ensures .told) (few-lent _ _ _ (r .ensures)) (c .before .before .line .ensures))
 
 pub play-one-spec : {M : Type 1} → statement M
 play-one-spec =
@@ -48,8 +60,11 @@ play-one-spec =
     sub-event
     part-event-start
     part-event-end
-    add-event
     event-requires
+    add-line
+    array-share-prefix-buffer
+    slice-aggregate-line
+    line-requires
     same-length
     same-length-2
     returns)
