@@ -16,10 +16,10 @@ use Rattle.machine.specs.Answer.{numberOf, countOf}
 use Rattle.machine.specs.Machine.{Out, out, Told, told}
 use Rattle.player.specs.declared.turns.Ran.{Ran}
 use Rattle.player.specs.declared.turns.Turn.{Turn}
-use Rattle.player.specs.Writing.{Wrote}
-use Rattle.player.specs.Print.{numeral, space, newline, dataText, refusedText, answerText, line}
+use Rattle.printout.specs.Writing.{Wrote}
+use Rattle.printout.specs.Print.{numeral, space, newline, dataText, refusedText, answerText, line}
 use Rattle.player.specs.Turns.{Ends, Turned}
-use Rattle.player.proofs.Writes.{wrote-as, numeral-length, answer-length}
+use Rattle.printout.proofs.Writes.{wrote-as, numeral-length, answer-length}
 
 abbrev byNumber : ℕ → ℕ → List ℕ → List ℕ
 byNumber k n b =

@@ -1,4 +1,3 @@
-pub mod Writes
 pub mod Answers
 pub mod Playing
 pub mod Room

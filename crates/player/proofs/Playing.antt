@@ -21,13 +21,13 @@ use Rattle.recording.specs.declared.cursor.Reading.{Reading}
 use Rattle.player.specs.declared.turns.Turn.{Turn}
 use Rattle.recording.specs.Format.{isKind, formed, eventOf, eventsIn, countOf, tableOf, bodiesOf, isFormed, Parsed, parse}
 use Rattle.recording.specs.Cursor.{readAt}
-use Rattle.player.specs.Writing.{Wrote}
-use Rattle.player.specs.Print.{line, lines, numeral, newline, heading, refusedLine}
+use Rattle.printout.specs.Writing.{Wrote}
+use Rattle.printout.specs.Print.{line, lines, numeral, newline, heading, refusedLine, hasRoom, fitting}
 use Rattle.player.specs.Player.{benchIdentity, benchMedium, played, textOf, mediumOf, printedOver, Leaves}
 use Rattle.player.specs.Turns.{Turned}
 use Rattle.recording.proofs.Parses.{events-count, parse-bad, parse-good}
 use Rattle.recording.proofs.Cursors.{Place, First, first, formed-step}
-use Rattle.player.proofs.Writes.{wrote-more, wrote-as, numeral-length, refused-line-length}
+use Rattle.printout.proofs.Writes.{wrote-more, wrote-as, wrote-fits, room-there, numeral-length, refused-line-length}
 
 -- what is left to play, from a record and a medium
 abbrev pub left-run : List ℕ → Device → List ℕ → ℕ → ℕ → ℕ → Run
@@ -124,13 +124,17 @@ heading-length n =
     let l = numeral-length n in
     omega arith
 
+-- the text has room for what is printed first
+pub front-fits : (t s t′ : List ℕ) (r : ℕ) → 207 ≤ length t → Wrote t 0 (fitting (hasRoom t 0) s) t′ r → Wrote t 0 s t′ r
+front-fits t s t′ r h w = wrote-fits t 0 (hasRoom t 0) s t′ r (room-there t 0 (omega arith)) w
+
 -- making refuses exactly what is not served
 pub made-number : (m : List ℕ) → eqb (numberOf (make benchIdentity m .answer)) 1 ≡ mediumServed m
 unfolding make numberFits if_then_else_
 made-number m = by-if (λ (r : Made). eqb (numberOf (r .answer)) 1 ≡ mediumServed m) (mediumServed m) _ _ (λ t. sym t) (λ f. sym f)
 
 -- nothing is run
-pub refuses : (start s t m t′ : List ℕ) (r : ℕ) → isFormed s ≡ false → 201 ≤ length t → Wrote t 0 (refusedLine 16) t′ r → Leaves start s t m t′ r m
+pub refuses : (start s t m t′ : List ℕ) (r : ℕ) → isFormed s ≡ false → 207 ≤ length t → Wrote t 0 (refusedLine 16) t′ r → Leaves start s t m t′ r m
 unfolding printedOver textOf mediumOf
 refuses start s t m t′ r f h w =
     let bad = parse-bad s f in
@@ -139,7 +143,7 @@ refuses start s t m t′ r f h w =
     let l = wrote-front t (refusedLine 16) t′ r w (omega arith) in
     record { text = l .0 ∙ ap (λ (x : List ℕ). x ++ drop (length x) t) p; place = l .1 ∙ ap length p; medium = ap (λ (x : Parsed). mediumOf start x m) (sym bad) }
 
-pub misfits : (start s t m t′ : List ℕ) (r : ℕ) → isFormed s ≡ true → mediumServed start ≡ false → 201 ≤ length t → Wrote t 0 (refusedLine 11) t′ r → Leaves start s t m t′ r m
+pub misfits : (start s t m t′ : List ℕ) (r : ℕ) → isFormed s ≡ true → mediumServed start ≡ false → 207 ≤ length t → Wrote t 0 (refusedLine 11) t′ r → Leaves start s t m t′ r m
 unfolding printedOver textOf mediumOf
 misfits start s t m t′ r f u h w =
     let good = parse-good s f in

@@ -16,10 +16,10 @@ use Rattle.recording.specs.declared.cursor.Kind.{Kind}
 use Rattle.recording.specs.declared.cursor.Kind.the-variants.{Reset, Control, Out as outward, Ask, Malformed}
 use Rattle.recording.specs.Format.{kindIn, lengthIn, eventOf, eventsIn, countOf, tableOf, bodiesOf, isFormed, Parsed}
 use Rattle.recording.proofs.Parses.{parse-bad, parse-good, sound}
-use Rattle.player.specs.Print.{line, lines, heading}
+use Rattle.printout.specs.Print.{line, lines, heading}
 use Rattle.player.specs.Player.{benchIdentity, played, textOf, printedOver, mostText}
 use Rattle.player.specs.Claims.{TextFits}
-use Rattle.player.proofs.Writes.{refused-line-length}
+use Rattle.printout.proofs.Writes.{refused-line-length}
 use Rattle.player.proofs.Answers.{line-length}
 use Rattle.player.proofs.Playing.{heading-length}
 

@@ -1,5 +1,3 @@
-pub mod Writing
-pub mod Print
 pub mod Turns
 pub mod Player
 pub mod Claims

@@ -9,7 +9,7 @@ use Rattle.wire.specs.Choice.{if_then_else_}
 use Rattle.machine.specs.Making.{mediumServed, make}
 use Rattle.machine.specs.Machine.{Event, Run, run}
 use Rattle.recording.specs.Format.{Parsed, malformed, wellFormed, parse}
-use Rattle.player.specs.Print.{heading, lines, refusedLine}
+use Rattle.printout.specs.Print.{heading, lines, refusedLine, mostLine}
 
 -- "number 42, other identity numbers 0"
 abbrev pub benchIdentity : Identity
@@ -43,10 +43,6 @@ pub record Leaves (start s t m t′ : List ℕ) (r : ℕ) (m′ : List ℕ) : Ty
 unfoldable pub benchMedium : List ℕ
 benchMedium = zeros 32768
 
--- The text's room: a line is at most a number of four digits, a space, `data`, a space, four digits, three characters for each of
--- 64 bytes, and a newline; and the heading.
-abbrev pub mostLine : ℕ
-mostLine = 207
-
+-- The text's room: the heading, and a line for each event.
 abbrev pub mostText : ℕ
 mostText = 12 + 1024 * mostLine

@@ -6,8 +6,8 @@ use lib.ListN.{length, take}
 use Rattle.machine.specs.Machine.{Out, out, told}
 use Rattle.player.specs.declared.turns.Ran.{Ran}
 use Rattle.player.specs.declared.turns.Turn.{Turn}
-use Rattle.player.specs.Writing.{Wrote}
-use Rattle.player.specs.Print.{line}
+use Rattle.printout.specs.Writing.{Wrote}
+use Rattle.printout.specs.Print.{line}
 
 -- The machine's outcome o, by its number, over the medium that is left.
 pub record Ends (r : Ran) (store : List ℕ) (o : Out) : Type 0 where

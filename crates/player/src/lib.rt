@@ -1,4 +1,3 @@
 // The player: a recording is run on a fresh collector, and what a person reads of it is written, a line for each event.
 pub mod play;
-mod print;
 mod turns;

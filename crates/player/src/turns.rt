@@ -6,13 +6,13 @@ ghost use Rattle.machine.specs.Machine.{step, busReset, bulkOut, bulkIn};
 ghost use Rattle.machine.specs.Machine as machines;
 ghost use Rattle.recording.specs.Format.{lentBuffer, eventOf};
 ghost use Rattle.player.specs.Turns.{Ends, Turned};
-use crate::print::line;
 use collector::events::bulk_in;
 use collector::events::bulk_out;
 use collector::events::bus_reset;
 use collector::events::control;
 use machine::answer::Answer;
 use machine::record::Device;
+use printout::print::line;
 use recording::cursor::Kind;
 use recording::cursor::Reading;
 

@@ -64,10 +64,10 @@ use Rattle.recording.proofs.head.moved.Symbol as moved-def
 use Rattle.recording.proofs.head.moved.Symbol.{name as #moved}
 use Rattle.recording.proofs.head.moved.Met as moved-thm
 use Rattle.player.specs.declared.turns.Turn.{Turn}
-use Rattle.player.specs.Writing.{Wrote}
-use Rattle.player.specs.Print.{lines}
+use Rattle.printout.specs.Writing.{Wrote}
+use Rattle.printout.specs.Print.{lines}
 use Rattle.player.specs.Turns.{Turned}
-use Rattle.player.proofs.Writes.{wrote-none, wrote-length}
+use Rattle.printout.proofs.Writes.{wrote-none, wrote-length}
 use Rattle.player.proofs.Playing.{left-run, So-far, began, go-on, ended}
 use Rattle.player.proofs.Calls.{bytes-val, read-val, turn-val, Own, OwnMut, head-at, at-list, New, Next, Moved, One, Passed, Asks, Sized, makes-head, reads-head, moves-head, plays}
 use Rattle.player.proofs.turns.Turn as U

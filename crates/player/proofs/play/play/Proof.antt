@@ -5,7 +5,7 @@ use lib.ListN.{length}
 use borrow.Author.Tests.{not-true, not-false}
 use Rattle.wire.specs.Slices.{zeros}
 use Rattle.player.specs.Player.{benchMedium}
-use Rattle.player.proofs.Playing.{refuses, cleared, bench-served}
+use Rattle.player.proofs.Playing.{front-fits, refuses, cleared, bench-served}
 use borrow.Author.Needs.{needs}
 use Rattle.player.proofs.play.play.Statement.{statement}
 use Rattle.player.proofs.play.play.Tie as tie
@@ -17,7 +17,7 @@ refusal-requires : tie.Need-refusal-requires
 refusal-requires c κs = search needs
 
 returns : tie.Need-returns
-returns c = refuses _ _ _ _ _ _ (sym (c .before .before .before .is-formed .ensures) ∙ not-true _ (c .before .before .if1 .taken)) (omega arith) (c .refusal .ensures)
+returns c = refuses _ _ _ _ _ _ (sym (c .before .before .before .is-formed .ensures) ∙ not-true _ (c .before .before .if1 .taken)) (omega arith) (front-fits _ _ _ _ (omega arith) (c .refusal .ensures))
 
 clear-requires : tie.Need-clear-requires
 clear-requires c κs = search needs

@@ -6,7 +6,7 @@ use lib.Dec.{eqb}
 use borrow.Author.Tests.{not-true, not-false}
 use Rattle.machine.specs.Making.{ToldMade}
 use Rattle.recording.proofs.Parses.{sound}
-use Rattle.player.proofs.Playing.{plays, misfits, made-number, heading-length}
+use Rattle.player.proofs.Playing.{front-fits, plays, misfits, made-number, heading-length}
 use borrow.Author.Needs.{needs}
 use Rattle.player.proofs.play.played.Statement.{statement}
 use Rattle.player.proofs.play.played.Tie as tie
@@ -31,7 +31,7 @@ returns : tie.Need-returns
 returns c =
     let a = c .before .before .before .is-ack .ensures in
     let m = c .before .before .before .before .make .ensures in
-    misfits _ _ _ _ _ _ (c .before .before .before .before .before .before .before .before .pre) (sym (made-number _) ∙ sym (ap acked m) ∙ sym a ∙ not-true _ (c .before .before .if1 .taken)) (omega arith) (c .refusal .ensures)
+    misfits _ _ _ _ _ _ (c .before .before .before .before .before .before .before .before .pre) (sym (made-number _) ∙ sym (ap acked m) ∙ sym a ∙ not-true _ (c .before .before .if1 .taken)) (omega arith) (front-fits _ _ _ _ (omega arith) (c .refusal .ensures))
 
 count-of-requires : tie.Need-count-of-requires
 count-of-requires c κs = search needs
@@ -42,7 +42,7 @@ heading-requires c κs = search needs
 events-requires : tie.Need-events-requires
 events-requires c κs = let n = c .before .before .before .before .count-of in
     let w = sound _ _ (c .before .before .before .before .before .before .before .before .before .before .before .before .pre) (n .ensures) in
-    let h = c .before .before .heading .ensures .place in
+    let h = front-fits _ _ _ _ (omega arith) (c .before .before .heading .ensures) .place in
     let l = heading-length (n .result) in
     let few = w .few in
     (w .few, w .room, omega arith, w .good)
@@ -60,7 +60,7 @@ returns-2 c =
     (sym (made-number _) ∙ sym (ap acked m) ∙ sym a ∙ not-false _ (c .before .before .before .before .before .before .before .before .before .if1 .left))
     (ap (λ (t : ToldMade). t .dev) m)
     (c .before .before .before .before .before .before .before .count-of .ensures)
-    (c .before .before .before .before .before .heading .ensures)
+    (front-fits _ _ _ _ (omega arith) (c .before .before .before .before .before .heading .ensures))
     (e .0)
     (e .1)
     (omega (arith, e .2))

@@ -8,6 +8,9 @@ use Rattle.machine.specs.Machine.{step}
 use Rattle.recording.specs.Format.{eventOf}
 use Rattle.player.proofs.Answers.{turned, turned-as, few-lent}
 use borrow.Author.Needs.{needs}
+use borrow.Author.Tests.{le-leb}
+use Rattle.wire.proofs.Cases.{and-true}
+use Rattle.printout.proofs.Writes.{wrote-fits, room-there}
 use Rattle.player.proofs.turns.play_one.Statement.{statement}
 use Rattle.player.proofs.turns.play_one.Tie as tie
 
@@ -36,7 +39,7 @@ slice-aggregate-line : tie.Need-slice-aggregate-line
 slice-aggregate-line c = sym (length-take-le _ _ (c .before .before .before .before .before .before .event .ensures .lent))
 
 line-requires : tie.Need-line-requires
-line-requires c κs = let few = few-lent _ _ _ (c .before .before .before .before .before .before .event .ensures) in (omega arith, few)
+line-requires c κs = search needs
 
 same-length : tie.Need-same-length
 same-length c = search needs
@@ -49,8 +52,9 @@ returns c =
     let a = c .before .before .before .before .before .before .before .before .before .before .before .before .before .before .before .before .before .args in
     let r = c .before .before .before .before .before .before .before .before .before .event in
     let n : a .body + a .r .len - a .body ≡ a .r .len = omega arith in
+    let few = few-lent _ _ _ (r .ensures) in
     turned-as _ _ _ _ _ _ _ _ (ap (λ (k : ℕ). step (a .turn .device) (a .medium .now) (eventOf (a .r .kind) (take k (drop (a .body) (a .input .now))))) n)
-    (turned (r .result .answer) (r .result .device) _ (take (r .result .lent) (r .result .buffer)) _ _ _ _ _ _ (r .ensures .told) (few-lent _ _ _ (r .ensures)) (c .before .before .line .ensures))
+    (turned (r .result .answer) (r .result .device) _ (take (r .result .lent) (r .result .buffer)) _ _ _ _ _ _ (r .ensures .told) few (wrote-fits _ _ _ _ _ _ (and-true _ _ (room-there _ _ (c .before .before .before .before .before .before .before .before .before .before .before .before .before .before .before .before .before .pre .2)) (le-leb _ _ few)) (c .before .before .line .ensures)))
 
 pub play-one-spec : {M : Type 1} → statement M
 play-one-spec =

@@ -1,9 +1,9 @@
 -- `numeral` meets its contract. Assumes nothing.
 use mathlib.Core.Path.{refl}
-use Rattle.player.proofs.Writes.{wrote-as, numeral-part}
+use Rattle.printout.proofs.Writes.{wrote-as, numeral-part}
 use borrow.Author.Needs.{needs}
-use Rattle.player.proofs.print.numeral.Statement.{statement}
-use Rattle.player.proofs.print.numeral.Tie as tie
+use Rattle.printout.proofs.print.numeral.Statement.{statement}
+use Rattle.printout.proofs.print.numeral.Tie as tie
 
 digits-requires : tie.Need-digits-requires
 digits-requires c κs = search needs

@@ -1,11 +1,11 @@
 -- `answer` meets its contract. Assumes nothing.
 use mathlib.Core.Path.{sym, ap, _∙_}
 use Rattle.machine.specs.declared.answer.Answer.{Answer}
-use Rattle.player.specs.Print.{answerText, refusedText}
-use Rattle.player.proofs.Writes.{wrote-as}
+use Rattle.printout.specs.Print.{answerText, refusedText}
+use Rattle.printout.proofs.Writes.{wrote-as}
 use borrow.Author.Needs.{needs}
-use Rattle.player.proofs.print.answer.Statement.{statement}
-use Rattle.player.proofs.print.answer.Tie as tie
+use Rattle.printout.proofs.print.answer.Statement.{statement}
+use Rattle.printout.proofs.print.answer.Tie as tie
 
 enum-known-said : tie.Need-enum-known-said
 enum-known-said c = search needs

@@ -2,8 +2,8 @@
 use borrow.Author.Tests.{lt-ltb, le-ltb}
 use Rattle.wire.specs.Choice.{if_then_else_}
 use borrow.Author.Needs.{needs}
-use Rattle.player.proofs.print.hex_digit.Statement.{statement}
-use Rattle.player.proofs.print.hex_digit.Tie as tie
+use Rattle.printout.proofs.print.hex_digit.Statement.{statement}
+use Rattle.printout.proofs.print.hex_digit.Tie as tie
 
 add-result : tie.Need-add-result
 add-result c = search needs

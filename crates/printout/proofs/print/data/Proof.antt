@@ -3,11 +3,11 @@ use native.Mathlib.Omega.{arith}
 use mathlib.Core.Path.{sym, ap}
 use lib.ListN.{length, take}
 use lib.Seq.{length-take-le}
-use Rattle.player.specs.Print as printing
-use Rattle.player.proofs.Writes.{wrote-more, wrote-as, hexes-length, numeral-length}
+use Rattle.printout.specs.Print as printing
+use Rattle.printout.proofs.Writes.{wrote-more, wrote-as, hexes-length, numeral-length}
 use borrow.Author.Needs.{needs}
-use Rattle.player.proofs.print.data.Statement.{statement}
-use Rattle.player.proofs.print.data.Tie as tie
+use Rattle.printout.proofs.print.data.Statement.{statement}
+use Rattle.printout.proofs.print.data.Tie as tie
 
 slice-aggregate-append : tie.Need-slice-aggregate-append
 slice-aggregate-append c = search needs

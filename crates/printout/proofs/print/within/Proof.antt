@@ -4,8 +4,8 @@ use native.Mathlib.Omega.{arith}
 use lib.ListN.{length}
 use lib.Seq.{take-all}
 use borrow.Author.Needs.{needs}
-use Rattle.player.proofs.print.within.Statement.{statement}
-use Rattle.player.proofs.print.within.Tie as tie
+use Rattle.printout.proofs.print.within.Statement.{statement}
+use Rattle.printout.proofs.print.within.Tie as tie
 
 returns : tie.Need-returns
 returns c = search needs

@@ -1,10 +1,10 @@
 -- `refused` meets its contract. Assumes nothing.
 use native.Mathlib.Omega.{arith}
-use Rattle.player.specs.Print.{refusedText}
-use Rattle.player.proofs.Writes.{wrote-more, numeral-length}
+use Rattle.printout.specs.Print.{refusedText}
+use Rattle.printout.proofs.Writes.{wrote-more, numeral-length}
 use borrow.Author.Needs.{needs}
-use Rattle.player.proofs.print.refused.Statement.{statement}
-use Rattle.player.proofs.print.refused.Tie as tie
+use Rattle.printout.proofs.print.refused.Statement.{statement}
+use Rattle.printout.proofs.print.refused.Tie as tie
 
 slice-aggregate-append : tie.Need-slice-aggregate-append
 slice-aggregate-append c = search needs

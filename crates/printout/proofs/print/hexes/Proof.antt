@@ -6,11 +6,11 @@ use native.Mathlib.Nat.{le-antisymm}
 use lib.ListN.{length, take}
 use lib.Seq.{take-length, length-take-le}
 use borrow.Author.Needs.{needs}
-use Rattle.player.specs.Writing.{Wrote}
-use Rattle.player.specs.Print as printing
-use Rattle.player.proofs.Writes.{wrote-none, wrote-more, wrote-as, wrote-length, hexes-length, hexes-step}
-use Rattle.player.proofs.print.hexes.Statement.{statement}
-use Rattle.player.proofs.print.hexes.Tie as tie
+use Rattle.printout.specs.Writing.{Wrote}
+use Rattle.printout.specs.Print as printing
+use Rattle.printout.proofs.Writes.{wrote-none, wrote-more, wrote-as, wrote-length, hexes-length, hexes-step}
+use Rattle.printout.proofs.print.hexes.Statement.{statement}
+use Rattle.printout.proofs.print.hexes.Tie as tie
 
 abbrev Inv-loop : tie.InvT-loop
 Inv-loop text₀ at s end₀ i₀ text end i = (i ≤ length s) × Wrote text₀ at (printing.hexes (take i s)) text end

@@ -2,9 +2,9 @@
 use borrow.Author.Tests.{lt-ltb, le-ltb}
 use Rattle.wire.specs.Choice.{if_then_else_}
 use native.Mathlib.Omega.{arith}
-use Rattle.player.specs.Print.{widthOf}
-use Rattle.player.proofs.print.width_of.Statement.{statement}
-use Rattle.player.proofs.print.width_of.Tie as tie
+use Rattle.printout.specs.Print.{widthOf}
+use Rattle.printout.proofs.print.width_of.Statement.{statement}
+use Rattle.printout.proofs.print.width_of.Tie as tie
 
 returns : tie.Need-returns
 unfolding widthOf if_then_else_

@@ -1,8 +1,9 @@
 -- What the bench prints (document 01, "The bench recording"), as bytes.
 use Prim.Native.Nat.{ℕ, _+_, _/_, _%_}
+use mathlib.Core.Bool.{Bool}
 use mathlib.Core.List.{List, [], _∷_, _++_}
-use lib.Dec.{ltb}
-use lib.ListN.{take}
+use lib.Dec.{ltb, leb}
+use lib.ListN.{length, take}
 use Rattle.wire.specs.Choice.{if_then_else_}
 use Rattle.wire.specs.Numbers.{decimal}
 use Rattle.wire.specs.Texts.{ascii}
@@ -61,3 +62,14 @@ heading n = ascii "events " ++ numeral n ++ newline
 -- All that is printed where nothing is run: "is 16, printed `refused 16`".
 unfoldable pub refusedLine : ℕ → List ℕ
 refusedLine n = refusedText n ++ newline
+
+-- What a public function writes: nothing, unless there is room for the longest line behind the place. A line is at most a number of
+-- four digits, a space, `data`, a space, four digits, three characters for each of 64 bytes, and a newline.
+abbrev pub mostLine : ℕ
+mostLine = 207
+
+unfoldable pub hasRoom : List ℕ → ℕ → Bool
+hasRoom t at = leb (at + mostLine) (length t)
+
+unfoldable pub fitting : Bool → List ℕ → List ℕ
+fitting fits s = if fits then s else []

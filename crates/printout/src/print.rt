@@ -1,18 +1,20 @@
 // The printed text, written piece by piece into a lent buffer: each function writes its piece from a place on and gives
-// the place behind it.
+// the place behind it. The public ones look first: without room for a line nothing is written, and the place stays.
 ghost use mathlib.Core.Path.{_≡_};
 ghost use Prim.Native.Nat.{_+_, _*_, _≤_, _<_};
+ghost use lib.Dec.{leb};
 ghost use lib.ListN.{length, take};
+ghost use Rattle.wire.specs.Choice.{_and_};
 ghost use Rattle.machine.specs.Answer.{refusalNumber};
-ghost use Rattle.player.specs.Writing.{Wrote};
-ghost use Rattle.player.specs.Print.{widthOf, hexDigit, answerText, dataText};
-ghost use Rattle.player.specs.Print as printing;
+ghost use Rattle.printout.specs.Writing.{Wrote};
+ghost use Rattle.printout.specs.Print.{hasRoom, fitting, widthOf, hexDigit, answerText, dataText};
+ghost use Rattle.printout.specs.Print as printing;
 use machine::answer::Answer;
 use machine::answer::Refusal;
 use wire::digits::digits;
 use wire::slices::put;
 
-pub(crate) fn append(text: &mut [u8], at: usize, s: &[u8]) -> usize
+fn append(text: &mut [u8], at: usize, s: &[u8]) -> usize
     requires { ⌜ at + length (now s) ≤ length (now text) ⌝ }
     ensures { λ r. ⌜ Wrote (now (text .entry)) at (now (s .entry)) (now (text .exit)) r ⌝ }
 {
@@ -35,7 +37,7 @@ fn width_of(n: usize) -> usize
     4
 }
 
-pub(crate) fn numeral(text: &mut [u8], at: usize, n: usize) -> usize
+fn numeral(text: &mut [u8], at: usize, n: usize) -> usize
     requires { ⌜ at + 4 ≤ length (now text) ⌝ }
     ensures { λ r. ⌜ Wrote (now (text .entry)) at (printing.numeral n) (now (text .exit)) r ⌝ }
 {
@@ -64,6 +66,16 @@ fn hexes(text: &mut [u8], at: usize, s: &[u8]) -> usize
         i += 1;
     }
     end
+}
+
+// Whether there is room for a line behind a place.
+fn has_room(text: &[u8], at: usize) -> bool
+    ensures { λ r. ⌜ r ≡ hasRoom (now (text .entry)) at ⌝ }
+{
+    if text.len() < 207 {
+        return false;
+    }
+    at <= text.len() - 207
 }
 
 // How many of the first n elements a slice has.
@@ -118,11 +130,16 @@ fn answer(text: &mut [u8], at: usize, said: Answer, buffer: &[u8]) -> usize
     }
 }
 
-// The line of the event of a number.
-pub(crate) fn line(text: &mut [u8], at: usize, number: usize, said: Answer, buffer: &[u8]) -> usize
-    requires { ⌜ (at + 207 ≤ length (now text)) × (length (now buffer) ≤ 64) ⌝ }
-    ensures { λ r. ⌜ Wrote (now (text .entry)) at (printing.line number said (now (buffer .entry))) (now (text .exit)) r ⌝ }
+// The line of the event of a number, from a place on.
+pub fn line(text: &mut [u8], at: usize, number: usize, said: Answer, buffer: &[u8]) -> usize
+    ensures { λ r. ⌜ Wrote (now (text .entry)) at (fitting (hasRoom (now (text .entry)) at and leb (length (now (buffer .entry))) 64) (printing.line number said (now (buffer .entry)))) (now (text .exit)) r ⌝ }
 {
+    if !has_room(text, at) {
+        return at;
+    }
+    if 64 < buffer.len() {
+        return at;
+    }
     let numbered = numeral(text, at, number);
     let spaced = append(text, numbered, b" ");
     let answered = answer(text, spaced, said, buffer);
@@ -130,20 +147,24 @@ pub(crate) fn line(text: &mut [u8], at: usize, number: usize, said: Answer, buff
 }
 
 // The first line of a recording that is played.
-pub(crate) fn heading(text: &mut [u8], count: usize) -> usize
-    requires { ⌜ 12 ≤ length (now text) ⌝ }
-    ensures { λ r. ⌜ Wrote (now (text .entry)) 0 (printing.heading count) (now (text .exit)) r ⌝ }
+pub fn heading(text: &mut [u8], count: usize) -> usize
+    ensures { λ r. ⌜ Wrote (now (text .entry)) 0 (fitting (hasRoom (now (text .entry)) 0) (printing.heading count)) (now (text .exit)) r ⌝ }
 {
+    if !has_room(text, 0) {
+        return 0;
+    }
     let numbered = append(text, 0, b"events ");
     let ended = numeral(text, numbered, count);
     append(text, ended, b"\n")
 }
 
 // All that is printed where nothing is run.
-pub(crate) fn refusal(text: &mut [u8], number: usize) -> usize
-    requires { ⌜ 201 ≤ length (now text) ⌝ }
-    ensures { λ r. ⌜ Wrote (now (text .entry)) 0 (printing.refusedLine number) (now (text .exit)) r ⌝ }
+pub fn refusal(text: &mut [u8], number: usize) -> usize
+    ensures { λ r. ⌜ Wrote (now (text .entry)) 0 (fitting (hasRoom (now (text .entry)) 0) (printing.refusedLine number)) (now (text .exit)) r ⌝ }
 {
+    if !has_room(text, 0) {
+        return 0;
+    }
     let numbered = refused(text, 0, number);
     append(text, numbered, b"\n")
 }

@@ -1,6 +1,7 @@
 -- Laws of writing into a lent buffer, and of the pieces that are printed. Assumes nothing.
 use Prim.Native.Nat.{ℕ, zero, suc, _+_, _*_, _-_, _/_, _%_, _≤_, _<_}
 use mathlib.Core.Path.{_≡_, refl, sym, ap, ap₂, subst, _∙_}
+use mathlib.Core.Bool.{Bool, true, false}
 use mathlib.Core.List.{List, [], _∷_, _++_, append-assoc, append-nil}
 use native.Mathlib.Omega.{arith}
 use native.Mathlib.Nat.{add-assoc, add-zero}
@@ -12,13 +13,14 @@ use Rattle.wire.specs.Slices.{placed, fits}
 use Rattle.wire.specs.Numbers.{decimal, low}
 use Rattle.wire.proofs.Lists.{placed-yes, length-placed}
 use Rattle.wire.proofs.Positional.{decimal-suc, digits}
-use Rattle.wire.proofs.Cases.{by-if}
+use Rattle.wire.proofs.Cases.{if-true, if-false, by-if}
+use borrow.Author.Tests.{le-leb, leb-true}
 use Rattle.wire.specs.Texts.{ascii}
 use Rattle.machine.specs.declared.answer.Answer.{Answer}
 use Rattle.machine.specs.declared.answer.Answer.the-variants.{Data, Ack, Nak, Stall, Silent, Refused}
 use Rattle.machine.specs.Answer.{refusalNumber}
-use Rattle.player.specs.Writing.{Wrote}
-use Rattle.player.specs.Print.{widthOf, numeral, hexDigit, hexes, dataText, refusedText, refusedLine, answerText, newline}
+use Rattle.printout.specs.Writing.{Wrote}
+use Rattle.printout.specs.Print.{widthOf, numeral, hexDigit, hexes, dataText, refusedText, refusedLine, answerText, newline, mostLine, hasRoom, fitting}
 
 -- ---- one piece after the other
 
@@ -151,3 +153,27 @@ refused-length n = let a = length-append (ascii "refused ") (numeral n) in let l
 pub refused-line-length : (n : ℕ) → length (refusedLine n) ≤ 13
 unfolding refusedLine
 refused-line-length n = let a = length-append (refusedText n) newline in let l = refused-length n in omega arith
+
+-- ---- what is looked at first
+
+pub fits-text : (fits : Bool) (s : List ℕ) → fits ≡ true → fitting fits s ≡ s
+unfolding fitting
+fits-text fits s e = if-true _ _ _ e
+
+pub room-there : (t : List ℕ) (at : ℕ) → at + mostLine ≤ length t → hasRoom t at ≡ true
+unfolding hasRoom
+room-there t at h = le-leb _ _ h
+
+pub room-said : (t : List ℕ) (at : ℕ) → hasRoom t at ≡ true → at + mostLine ≤ length t
+unfolding hasRoom
+room-said t at e = leb-true _ _ e
+
+pub wrote-kept : (t : List ℕ) (at : ℕ) (fits : Bool) (s : List ℕ) → fits ≡ false → Wrote t at (fitting fits s) t at
+unfolding fitting
+wrote-kept t at fits s e = wrote-as t at [] t at (fitting fits s) (sym (if-false _ _ _ e)) (wrote-none t at)
+
+pub wrote-fitting : (t : List ℕ) (at : ℕ) (fits : Bool) (s t′ : List ℕ) (r : ℕ) → fits ≡ true → Wrote t at s t′ r → Wrote t at (fitting fits s) t′ r
+wrote-fitting t at fits s t′ r e w = wrote-as t at s t′ r (fitting fits s) (sym (fits-text fits s e)) w
+
+pub wrote-fits : (t : List ℕ) (at : ℕ) (fits : Bool) (s t′ : List ℕ) (r : ℕ) → fits ≡ true → Wrote t at (fitting fits s) t′ r → Wrote t at s t′ r
+wrote-fits t at fits s t′ r e w = wrote-as t at (fitting fits s) t′ r s (fits-text fits s e) w

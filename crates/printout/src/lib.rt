@@ -1,0 +1,2 @@
+// What the bench prints of a recording: its text, written into a lent buffer.
+pub mod print;
