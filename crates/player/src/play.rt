@@ -1,17 +1,15 @@
 // The player: a recording is checked as a whole, and then its events are run, each with its line.
 ghost use mathlib.Core.Path.{_≡_};
 ghost use mathlib.Core.Bool.{true};
-ghost use mathlib.Core.List.{_++_};
 ghost use Prim.Native.Nat.{_+_, _*_, _≤_};
 ghost use lib.Dec.{eqb};
 ghost use lib.ListN.{length, drop};
 ghost use Rattle.wire.specs.Slices.{zeros};
 ghost use Rattle.machine.specs.Answer.{numberOf};
-ghost use Rattle.machine.specs.Machine.{run};
-ghost use Rattle.recording.specs.Format.{formed, eventsIn, isFormed};
+ghost use Rattle.recording.specs.Format.{formed, isFormed};
 ghost use Rattle.printout.specs.Writing.{Wrote};
 ghost use Rattle.printout.specs.Print.{lines};
-ghost use Rattle.player.specs.Player.{benchMedium, Leaves};
+ghost use Rattle.player.specs.Player.{runIn, benchMedium, Leaves};
 use crate::turns::Turn;
 use crate::turns::play_one;
 use collector::events::make;
@@ -44,7 +42,7 @@ fn clear(medium: &mut [u8])
 // The events of a well-formed recording, so many, from a record and a place in the text on.
 fn events(input: &[u8], count: usize, medium: &mut [u8], text: &mut [u8], start: Turn) -> Turn
     requires { ⌜ (count ≤ 1024) × (2 + 4 * count ≤ length (now input)) × (start .at + 207 * count ≤ length (now text)) × (formed count (drop 2 (now input)) (drop (2 + 4 * count) (now input)) ≡ true) ⌝ }
-    ensures { λ r. ⌜ (Wrote (now (text .entry)) (start .at) (lines 1 (run (start .device) (now (medium .entry)) (eventsIn count (drop 2 (now (input .entry))) (drop (2 + 4 * count) (now (input .entry)))) .replies)) (now (text .exit)) (r .at)) × (now (medium .exit) ≡ run (start .device) (now (medium .entry)) (eventsIn count (drop 2 (now (input .entry))) (drop (2 + 4 * count) (now (input .entry)))) .medium) × (r .at ≤ length (now (text .entry))) ⌝ }
+    ensures { λ r. ⌜ (Wrote (now (text .entry)) (start .at) (lines 1 (runIn (now (input .entry)) count (start .device) (now (medium .entry)) .replies)) (now (text .exit)) (r .at)) × (now (medium .exit) ≡ runIn (now (input .entry)) count (start .device) (now (medium .entry)) .medium) × (r .at ≤ length (now (text .entry))) ⌝ }
 {
     let mut head = new(input, 2, 2 + 4 * count);
     let mut turn = start;
