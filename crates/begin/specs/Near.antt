@@ -1,4 +1,4 @@
--- The state that an accepted wrapper leaves, for any plan: one whose first byte lies beyond every unit leaves it as it was.
+-- The state that an accepted wrapper leaves, for any plan: one whose first block lies beyond every unit leaves it as it was.
 use mathlib.Core.Bool.{Bool, true}
 use lib.Dec.{leb}
 use Rattle.wire.specs.Choice.{if_then_else_}
