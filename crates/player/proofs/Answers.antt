@@ -14,7 +14,7 @@ use Rattle.machine.specs.declared.answer.Refusal.the-variants as refusal
 use Rattle.machine.specs.declared.record.Device.{Device}
 use Rattle.machine.specs.Answer.{numberOf, countOf}
 use Rattle.machine.specs.Machine.{Out, out, Told, told}
-use Rattle.player.specs.declared.turns.Ran.{Ran}
+use Rattle.player.specs.declared.turns.EventResult.{EventResult}
 use Rattle.player.specs.declared.turns.Turn.{Turn}
 use Rattle.printout.specs.Writing.{Wrote}
 use Rattle.printout.specs.Print.{numeral, space, newline, dataText, refusedText, answerText, line}
@@ -89,8 +89,8 @@ pub ends-none : (a : Answer) (d : Device) (b m : List ℕ) (o : Out) → length 
 ends-none a d b m o h e = record { told = e; lent = omega arith; size = omega arith }
 
 -- what is printed of it is at most 64 bytes
-pub few-lent : (r : Ran) (m : List ℕ) (o : Out) → Ends r m o → length (take (r .lent) (r .buffer)) ≤ 64
+pub few-lent : (r : EventResult) (m : List ℕ) (o : Out) → Ends r m o → length (take (r .lent) (r .buffer)) ≤ 64
 few-lent r m o w = let l = length-take-le (r .lent) (r .buffer) (w .lent) in let a = w .lent in let b = w .size in omega arith
 
-pub ends-as : (r : Ran) (m : List ℕ) (o p : Out) → o ≡ p → Ends r m o → Ends r m p
+pub ends-as : (r : EventResult) (m : List ℕ) (o p : Out) → o ≡ p → Ends r m o → Ends r m p
 ends-as r m o p e w = subst (Ends r m) e w

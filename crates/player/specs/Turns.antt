@@ -4,13 +4,13 @@ use mathlib.Core.Path.{_≡_}
 use mathlib.Core.List.{List}
 use lib.ListN.{length, take}
 use Rattle.machine.specs.Machine.{Out, out, told}
-use Rattle.player.specs.declared.turns.Ran.{Ran}
+use Rattle.player.specs.declared.turns.EventResult.{EventResult}
 use Rattle.player.specs.declared.turns.Turn.{Turn}
 use Rattle.printout.specs.Writing.{Wrote}
 use Rattle.printout.specs.Print.{line}
 
 -- The machine's outcome o, by its number, over the medium that is left.
-pub record Ends (r : Ran) (store : List ℕ) (o : Out) : Type 0 where
+pub record Ends (r : EventResult) (store : List ℕ) (o : Out) : Type 0 where
   pub told : told (out (r .answer) (r .device) store (take (r .lent) (r .buffer))) ≡ told o
   pub lent : r .lent ≤ length (r .buffer)
   pub size : length (r .buffer) ≤ 64

@@ -17,20 +17,20 @@ use recording::cursor::Kind;
 use recording::cursor::Reading;
 
 // What an event leaves: its answer, the record, and of the buffer that it was lent the first `lent` bytes.
-struct Ran {
+struct EventResult {
     answer: Answer,
     device: Device,
     buffer: [u8; 64],
     lent: usize,
 }
 
-fn reset(device: Device) -> Ran
+fn reset(device: Device) -> EventResult
     ensures { λ r. ⌜ ((m : List ℕ) → Ends r m (step device m busReset)) ⌝ }
 {
     let done = bus_reset(device);
     let answer = done.answer;
     let next = done.device;
-    Ran {
+    EventResult {
         answer,
         device: next,
         buffer: [0; 64],
@@ -38,14 +38,14 @@ fn reset(device: Device) -> Ran
     }
 }
 
-fn request(device: Device, setup: &[u8]) -> Ran
+fn request(device: Device, setup: &[u8]) -> EventResult
     ensures { λ r. ⌜ ((m : List ℕ) → Ends r m (step device m (machines.control (now (setup .entry)) lentBuffer))) ⌝ }
 {
     let mut buffer = [0; 64];
     let done = control(device, setup, &mut buffer);
     let answer = done.answer;
     let next = done.device;
-    Ran {
+    EventResult {
         answer,
         device: next,
         buffer,
@@ -53,13 +53,13 @@ fn request(device: Device, setup: &[u8]) -> Ran
     }
 }
 
-fn packet(device: Device, sent: &[u8], medium: &mut [u8]) -> Ran
+fn packet(device: Device, sent: &[u8], medium: &mut [u8]) -> EventResult
     ensures { λ r. ⌜ Ends r (now (medium .exit)) (step device (now (medium .entry)) (bulkOut (now (sent .entry)))) ⌝ }
 {
     let done = bulk_out(device, medium, sent);
     let answer = done.answer;
     let next = done.device;
-    Ran {
+    EventResult {
         answer,
         device: next,
         buffer: [0; 64],
@@ -67,14 +67,14 @@ fn packet(device: Device, sent: &[u8], medium: &mut [u8]) -> Ran
     }
 }
 
-fn ask(device: Device, medium: &[u8]) -> Ran
+fn ask(device: Device, medium: &[u8]) -> EventResult
     ensures { λ r. ⌜ Ends r (now (medium .entry)) (step device (now (medium .entry)) (bulkIn lentBuffer)) ⌝ }
 {
     let mut buffer = [0; 64];
     let done = bulk_in(device, medium, &mut buffer);
     let answer = done.answer;
     let next = done.device;
-    Ran {
+    EventResult {
         answer,
         device: next,
         buffer,
@@ -82,7 +82,7 @@ fn ask(device: Device, medium: &[u8]) -> Ran
     }
 }
 
-fn event(device: Device, kind: Kind, body: &[u8], medium: &mut [u8]) -> Ran
+fn event(device: Device, kind: Kind, body: &[u8], medium: &mut [u8]) -> EventResult
     ensures { λ r. ⌜ Ends r (now (medium .exit)) (step device (now (medium .entry)) (eventOf kind (now (body .entry)))) ⌝ }
 {
     match kind {
@@ -116,11 +116,11 @@ pub(crate) fn play_one(
     let kind = r.kind;
     let end = body + r.len;
     let device = turn.device;
-    let ran = event(device, kind, &input[body..end], medium);
-    let answer = ran.answer;
-    let next = ran.device;
-    let buffer = ran.buffer;
-    let lent = ran.lent;
+    let result = event(device, kind, &input[body..end], medium);
+    let answer = result.answer;
+    let next = result.device;
+    let buffer = result.buffer;
+    let lent = result.lent;
     let at = line(text, turn.at, done + 1, answer, &buffer[..lent]);
     Turn { device: next, at }
 }
