@@ -6,9 +6,8 @@ ghost use lib.ListN.{length};
 ghost use Rattle.usb.specs.declared.descriptor.Identity.{Identity};
 ghost use Rattle.machine.specs.Record.{device};
 ghost use Rattle.machine.specs.Outcome.{reacts};
-ghost use Rattle.machine.specs.Bulk.{afterStatus, onAsk, onStatus, packetIn, nextIn, handedState};
+ghost use Rattle.machine.specs.Bulk.{onAsk, onStatus, packetIn, handedState};
 ghost use Rattle.bulk.specs.Parts.{Sound};
-use crate::halt::halt_at_end;
 use bot::csw::Csw;
 use bot::csw::Status;
 use bot::csw::csw_bytes;
@@ -18,9 +17,10 @@ use machine::record::State;
 use machine::record::Task;
 use scsi::reply::reply_bytes;
 use state::gate::Moved;
-use state::states::locked_state;
+use state::progress::after_status;
+use state::progress::halt_at_end;
+use state::progress::next_in;
 use state::states::moved;
-use state::states::no_task;
 use wire::slices::put;
 use wire::slices::put_packet;
 
@@ -32,17 +32,6 @@ fn rest(left: u32) -> u32
         return 0;
     }
     left - 64
-}
-
-fn next_in(left: u32, more: Stage) -> Stage
-    ensures { λ r. ⌜ r ≡ nextIn left more ⌝ }
-{
-    if left <= 64 {
-        return Stage::StatusDue {
-            status: Status::Passed,
-        };
-    }
-    more
 }
 
 // The state once `count` of the bytes left are handed out; `more` is the stage where these were not the last.
@@ -100,22 +89,6 @@ fn on_ask(
             count: left as usize,
         },
         state: handed_state(state, left, left, more),
-    }
-}
-
-// After the status a wrapper is due; a phase error locks the device.
-fn after_status(status: Status, state: State) -> State
-    ensures { λ r. ⌜ r ≡ afterStatus status state ⌝ }
-{
-    let unit = state.unit;
-    let link = state.link;
-    let sense = unit.sense;
-    let task = no_task();
-    let next = moved(state, sense, link.haltin, link.haltout, task);
-    match status {
-        Status::Passed => next,
-        Status::Failed => next,
-        Status::PhaseError => locked_state(next),
     }
 }
 

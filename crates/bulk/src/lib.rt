@@ -1,6 +1,5 @@
 // The bulk pipes: a packet from the host, and an ask for a packet. Both events make their checks first; each is one
 // equation with the specification machine, for every input.
-mod halt;
 mod inward;
 mod outward;
 pub mod parts;

@@ -8,9 +8,8 @@ ghost use Rattle.machine.specs.Fits.{mostBlocks, sizeFits};
 ghost use Rattle.machine.specs.Record.{device};
 ghost use Rattle.machine.specs.Outcome.{effects};
 ghost use Rattle.machine.specs.Wrapper.{wrapperOf};
-ghost use Rattle.machine.specs.Bulk.{onWrapper, nextOut, onData, packetOut, cutState, gatheredState, storedState};
+ghost use Rattle.machine.specs.Bulk.{onWrapper, nextOut, onData, packetOut, gatheredState, storedState};
 ghost use Rattle.bulk.specs.Parts.{Sound, Gathering};
-use crate::halt::halt_at_end;
 use begin::command::begin;
 use begin::wrapper::read_wrapper;
 use bot::csw::Status;
@@ -19,8 +18,9 @@ use machine::record::Stage;
 use machine::record::State;
 use machine::record::Task;
 use machine::wrapper::Wrapper;
-use scsi::sense::Sense;
 use state::gate::Moved;
+use state::progress::cut_state;
+use state::progress::halt_at_end;
 use state::states::locked_state;
 use state::states::moved;
 use state::states::wipe;
@@ -43,24 +43,6 @@ fn on_wrapper(state: State, packet: &[u8]) -> Moved
             state: begin(header, plan, state),
         },
     }
-}
-
-// Data of another length than 64: the command ends in a phase error.
-fn cut_state(state: State) -> State
-    ensures { λ r. ⌜ r ≡ cutState state ⌝ }
-{
-    let link = state.link;
-    let old = link.task;
-    let task = Task {
-        stage: Stage::StatusDue {
-            status: Status::PhaseError,
-        },
-        tag: old.tag,
-        announced: old.announced,
-        residue: old.residue,
-    };
-    let sense = Sense::DATA_PHASE;
-    moved(state, sense, link.haltin, true, task)
 }
 
 fn gathered_state(state: State, block: u32, left: u32, held: u32) -> State

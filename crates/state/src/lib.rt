@@ -2,4 +2,5 @@
 // that events leave. Each function is one equation with the specification machine.
 pub mod fits;
 pub mod gate;
+pub mod progress;
 pub mod states;

@@ -2,8 +2,8 @@
 use borrow.Author.Tests.{not-true, not-false, lt-ltb, le-ltb}
 use Rattle.wire.specs.Choice.{if_then_else_}
 use Rattle.machine.specs.Bulk.{haltAtEnd}
-use Rattle.bulk.proofs.halt.halt_at_end.Statement.{statement}
-use Rattle.bulk.proofs.halt.halt_at_end.Tie as tie
+use Rattle.state.proofs.progress.halt_at_end.Statement.{statement}
+use Rattle.state.proofs.progress.halt_at_end.Tie as tie
 
 returns : tie.Need-returns
 unfolding haltAtEnd if_then_else_

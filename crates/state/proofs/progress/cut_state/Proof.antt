@@ -2,8 +2,8 @@
 use Rattle.machine.specs.Bulk.{cutState}
 use Rattle.machine.specs.Record.{moved}
 use borrow.Author.Needs.{needs}
-use Rattle.bulk.proofs.outward.cut_state.Statement.{statement}
-use Rattle.bulk.proofs.outward.cut_state.Tie as tie
+use Rattle.state.proofs.progress.cut_state.Statement.{statement}
+use Rattle.state.proofs.progress.cut_state.Tie as tie
 
 moved-requires : tie.Need-moved-requires
 moved-requires c κs = search needs

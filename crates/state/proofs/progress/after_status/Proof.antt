@@ -3,8 +3,8 @@ use mathlib.Core.Path.{sym}
 use Rattle.machine.specs.Record.{moved}
 use Rattle.machine.specs.Bulk.{afterStatus}
 use borrow.Author.Needs.{needs}
-use Rattle.bulk.proofs.inward.after_status.Statement.{statement}
-use Rattle.bulk.proofs.inward.after_status.Tie as tie
+use Rattle.state.proofs.progress.after_status.Statement.{statement}
+use Rattle.state.proofs.progress.after_status.Tie as tie
 
 no-task-requires : tie.Need-no-task-requires
 no-task-requires c κs = search needs

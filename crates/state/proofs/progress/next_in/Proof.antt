@@ -2,8 +2,8 @@
 use Rattle.machine.specs.Bulk.{nextIn}
 use borrow.Author.Tests.{le-leb, lt-leb}
 use Rattle.wire.specs.Choice.{if_then_else_}
-use Rattle.bulk.proofs.inward.next_in.Statement.{statement}
-use Rattle.bulk.proofs.inward.next_in.Tie as tie
+use Rattle.state.proofs.progress.next_in.Statement.{statement}
+use Rattle.state.proofs.progress.next_in.Tie as tie
 
 returns : tie.Need-returns
 unfolding nextIn if_then_else_
