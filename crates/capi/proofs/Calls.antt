@@ -20,7 +20,7 @@ use Rattle.machine.proofs.Senses.{StageSense, Senses, keeps-senses, made-senses
 use Rattle.crecord.specs.Flat.{decodes, deviceFrom, recordOf}
 use Rattle.crecord.specs.Claims.{IsState}
 use Rattle.crecord.proofs.RoundTrip.{round-trip}
-use Rattle.capi.specs.Events.{Left, leaves, onRecord, onMaking}
+use Rattle.cevents.specs.Events.{Left, leaves, onRecord, onMaking}
 use Rattle.capi.specs.Calls.{Calls, before, calls, called, byNumber, asCalls, RunByCalls, CallsRun}
 
 is-state : (s : State) → Senses s → IsState s

@@ -55,7 +55,7 @@ use Rattle.crecord.specs.declared.record.Given.{Given}
 use Rattle.crecord.specs.declared.record.Flat.{Flat}
 use Rattle.crecord.specs.declared.record.Record.{Record}
 use Rattle.crecord.specs.declared.record.Told.{Told}
-use Rattle.capi.specs.declared.turn.Turn.{Turn}
+use Rattle.cevents.specs.declared.turn.Turn.{Turn}
 use Rattle.crecord.specs.Flat.{rec}
 use Rattle.crecord.proofs.record.Given as G
 use Rattle.crecord.proofs.record.Given.Laws as G′
@@ -65,8 +65,8 @@ use Rattle.crecord.proofs.record.Record as R
 use Rattle.crecord.proofs.record.Record.Laws as R′
 use Rattle.crecord.proofs.record.Told as T
 use Rattle.crecord.proofs.record.Told.Laws as T′
-use Rattle.capi.proofs.turn.Turn as U
-use Rattle.capi.proofs.turn.Turn.Laws as U′
+use Rattle.cevents.proofs.turn.Turn as U
+use Rattle.cevents.proofs.turn.Turn.Laws as U′
 
 -- ---- the record's machine value
 abbrev pub Block : RattleType

@@ -1,6 +1,2 @@
-pub mod Asked
 pub mod Calls
 pub mod Held
-pub mod Never
-pub mod Turns
-pub mod Ways

@@ -13,7 +13,7 @@ use Rattle.machine.specs.Claim.{lived}
 use Rattle.crecord.specs.declared.record.Record.{Record}
 use Rattle.crecord.specs.declared.record.Told as tolds
 use Rattle.crecord.specs.Flat.{decodes, deviceFrom, recordOf, answer}
-use Rattle.capi.specs.Events.{Left, onRecord, onMaking}
+use Rattle.cevents.specs.Events.{Left, onRecord, onMaking}
 
 -- What C sees of one call: its number and count, the buffer that it lent, the medium after it.
 pub record Seen : Type 0 where

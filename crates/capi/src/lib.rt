@@ -6,18 +6,15 @@ ghost use mathlib.Core.Path.{_≡_};
 ghost use mathlib.Core.List.{List, []};
 ghost use Rattle.machine.specs.Machine.{busReset, bulkOut, bulkIn};
 ghost use Rattle.machine.specs.Machine as machines;
-ghost use Rattle.capi.specs.Events.{left, onRecord, leftMade, onMaking};
-use crate::turn::turn_control;
-use crate::turn::turn_in;
-use crate::turn::turn_make;
-use crate::turn::turn_out;
-use crate::turn::turn_reset;
+ghost use Rattle.cevents.specs.Events.{left, onRecord, leftMade, onMaking};
+use cevents::turn::turn_control;
+use cevents::turn::turn_in;
+use cevents::turn::turn_make;
+use cevents::turn::turn_out;
+use cevents::turn::turn_reset;
 use crecord::record::Given;
 use crecord::record::Record;
 use crecord::record::Told;
-
-mod quick;
-mod turn;
 
 // A collector of these numbers over the medium; a refused making leaves a record of zeros.
 #[no_mangle]

@@ -27,15 +27,15 @@ use denote.Triple.Statement.{Contract, Triple}
 use denote.Triple.Table.{entered, cited}
 use Rattle.machine.specs.Machine.{bulkIn}
 use Rattle.crecord.specs.Flat.{rec}
-use Rattle.capi.specs.Events.{left, onRecord}
+use Rattle.cevents.specs.Events.{left, onRecord}
 use Rattle.crecord.specs.declared.record.Record.{Record}
-use Rattle.capi.specs.declared.turn.Turn.{Turn}
+use Rattle.cevents.specs.declared.turn.Turn.{Turn}
 use Rattle.capi.proofs.Held.{given-val, flat-val, told-val, told-is, ptr-val, Held, opens-record, bytes-val, last-bytes, next-parts, turns-alone, reads-numbers, settles, free-at, ended, Walk, ends, meets-by}
 use Rattle.crecord.proofs.record.Record as R
-use Rattle.capi.proofs.turn.turn_in as turn-in
-use Rattle.capi.proofs.turn.turn_in.Symbol as turn-in-def
-use Rattle.capi.proofs.turn.turn_in.Symbol.{name as #turn-in}
-use Rattle.capi.proofs.turn.turn_in.Met as turn-in-thm
+use Rattle.cevents.proofs.turn.turn_in as turn-in
+use Rattle.cevents.proofs.turn.turn_in.Symbol as turn-in-def
+use Rattle.cevents.proofs.turn.turn_in.Symbol.{name as #turn-in}
+use Rattle.cevents.proofs.turn.turn_in.Met as turn-in-thm
 use Rattle.capi.proofs.collector_bulk_in.Key.{name as #collector-bulk-in}
 use Rattle.capi.proofs.collector_bulk_in as f
 use Rattle.capi.proofs.collector_bulk_in.Statement as stated
@@ -99,4 +99,4 @@ collector-bulk-in-spec 𝓤 H 𝓜 𝓖 𝓡 =
     (meets-by 𝓤 H A W f.ended (f.clauses 𝓤 H A (𝓜 .mem) (𝓡 .run)) code.function 𝓣 (λ κs. (ptr-vals, (slice-vals, (slice-vals, tt))))
     (λ κs. (mut-tells (named 0) (κs .0) R.the-row, (shr-slice-tells (named 1) (κs .1 .0) u8, (mut-slice-tells (named 2) (κs .1 .1 .0) u8, tt))))
     (λ κs qs bounds a _ are. walk 𝓤 H A W (𝓜 .mem) (𝓡 .run) (κs .0) (κs .1 .0) (κs .1 .1 .0) (qs .0) (qs .1 .0) (qs .1 .1 .0) (a .0) (a .1 .0) (a .1 .1 .0) (𝓣 .C) (𝓣 .Λ) (fmOf 𝓤 H (W .laws) 𝓣)
-    (cited 𝓤 H (TurnIn 𝓤 H A (𝓜 .mem) (𝓡 .run)) 𝓜 𝓡 code.env #turn-in turn-in-def.routine code.calls-capi·turn·turn-in (turn-in-thm.met 𝓤 H 𝓜 𝓖 𝓡)) (are .1 .0 .0 .1) (are .1 .1 .0 .0 .1)))
+    (cited 𝓤 H (TurnIn 𝓤 H A (𝓜 .mem) (𝓡 .run)) 𝓜 𝓡 code.env #turn-in turn-in-def.routine code.calls-cevents·turn·turn-in (turn-in-thm.met 𝓤 H 𝓜 𝓖 𝓡)) (are .1 .0 .0 .1) (are .1 .1 .0 .0 .1)))

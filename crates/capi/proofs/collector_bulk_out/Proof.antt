@@ -28,15 +28,15 @@ use denote.Triple.Statement.{Contract, Triple}
 use denote.Triple.Table.{entered, cited}
 use Rattle.machine.specs.Machine.{bulkOut}
 use Rattle.crecord.specs.Flat.{rec}
-use Rattle.capi.specs.Events.{left, onRecord}
+use Rattle.cevents.specs.Events.{left, onRecord}
 use Rattle.crecord.specs.declared.record.Record.{Record}
-use Rattle.capi.specs.declared.turn.Turn.{Turn}
+use Rattle.cevents.specs.declared.turn.Turn.{Turn}
 use Rattle.capi.proofs.Held.{given-val, flat-val, told-val, told-is, ptr-val, Held, opens-record, bytes-val, last-bytes, Part, turns, reads-numbers, settles, free-at, ended, Walk, ends, meets-by}
 use Rattle.crecord.proofs.record.Record as R
-use Rattle.capi.proofs.turn.turn_out as turn-out
-use Rattle.capi.proofs.turn.turn_out.Symbol as turn-out-def
-use Rattle.capi.proofs.turn.turn_out.Symbol.{name as #turn-out}
-use Rattle.capi.proofs.turn.turn_out.Met as turn-out-thm
+use Rattle.cevents.proofs.turn.turn_out as turn-out
+use Rattle.cevents.proofs.turn.turn_out.Symbol as turn-out-def
+use Rattle.cevents.proofs.turn.turn_out.Symbol.{name as #turn-out}
+use Rattle.cevents.proofs.turn.turn_out.Met as turn-out-thm
 use Rattle.capi.proofs.collector_bulk_out.Key.{name as #collector-bulk-out}
 use Rattle.capi.proofs.collector_bulk_out as f
 use Rattle.capi.proofs.collector_bulk_out.Statement as stated
@@ -101,4 +101,4 @@ collector-bulk-out-spec 𝓤 H 𝓜 𝓖 𝓡 =
     (meets-by 𝓤 H A W f.ended (f.clauses 𝓤 H A (𝓜 .mem) (𝓡 .run)) code.function 𝓣 (λ κs. (ptr-vals, (slice-vals, (slice-vals, tt))))
     (λ κs. (mut-tells (named 0) (κs .0) R.the-row, (mut-slice-tells (named 1) (κs .1 .0) u8, (shr-slice-tells (named 2) (κs .1 .1 .0) u8, tt))))
     (λ κs qs bounds a _ are. walk 𝓤 H A W (𝓜 .mem) (𝓡 .run) (κs .0) (κs .1 .0) (κs .1 .1 .0) (qs .0) (qs .1 .0) (qs .1 .1 .0) (a .0) (a .1 .0) (a .1 .1 .0) (𝓣 .C) (𝓣 .Λ) (fmOf 𝓤 H (W .laws) 𝓣)
-    (cited 𝓤 H (TurnOut 𝓤 H A (𝓜 .mem) (𝓡 .run)) 𝓜 𝓡 code.env #turn-out turn-out-def.routine code.calls-capi·turn·turn-out (turn-out-thm.met 𝓤 H 𝓜 𝓖 𝓡)) (are .1 .0 .0 .1) (are .1 .1 .0 .0 .1)))
+    (cited 𝓤 H (TurnOut 𝓤 H A (𝓜 .mem) (𝓡 .run)) 𝓜 𝓡 code.env #turn-out turn-out-def.routine code.calls-cevents·turn·turn-out (turn-out-thm.met 𝓤 H 𝓜 𝓖 𝓡)) (are .1 .0 .0 .1) (are .1 .1 .0 .0 .1)))

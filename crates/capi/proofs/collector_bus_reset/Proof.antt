@@ -23,15 +23,15 @@ use denote.Triple.Statement.{Contract, Triple}
 use denote.Triple.Table.{entered, cited}
 use Rattle.machine.specs.Machine.{busReset}
 use Rattle.crecord.specs.Flat.{rec}
-use Rattle.capi.specs.Events.{left, onRecord}
+use Rattle.cevents.specs.Events.{left, onRecord}
 use Rattle.crecord.specs.declared.record.Record.{Record}
-use Rattle.capi.specs.declared.turn.Turn.{Turn}
+use Rattle.cevents.specs.declared.turn.Turn.{Turn}
 use Rattle.capi.proofs.Held.{given-val, flat-val, told-val, told-is, ptr-val, Held, opens-record, Part, turns, reads-numbers, settles, free-at, ended, Walk, ends, meets-by}
 use Rattle.crecord.proofs.record.Record as R
-use Rattle.capi.proofs.turn.turn_reset as turn-reset
-use Rattle.capi.proofs.turn.turn_reset.Symbol as turn-reset-def
-use Rattle.capi.proofs.turn.turn_reset.Symbol.{name as #turn-reset}
-use Rattle.capi.proofs.turn.turn_reset.Met as turn-reset-thm
+use Rattle.cevents.proofs.turn.turn_reset as turn-reset
+use Rattle.cevents.proofs.turn.turn_reset.Symbol as turn-reset-def
+use Rattle.cevents.proofs.turn.turn_reset.Symbol.{name as #turn-reset}
+use Rattle.cevents.proofs.turn.turn_reset.Met as turn-reset-thm
 use Rattle.capi.proofs.collector_bus_reset.Key.{name as #collector-bus-reset}
 use Rattle.capi.proofs.collector_bus_reset as f
 use Rattle.capi.proofs.collector_bus_reset.Statement as stated
@@ -94,4 +94,4 @@ collector-bus-reset-spec 𝓤 H 𝓜 𝓖 𝓡 =
     (meets-by 𝓤 H A W f.ended (f.clauses 𝓤 H A (𝓜 .mem) (𝓡 .run)) code.function 𝓣 (λ κs. (ptr-vals, tt))
     (λ κs. (mut-tells (named 0) (κs .0) R.the-row, tt))
     (λ κs qs bounds a _ are. walk 𝓤 H A W (𝓜 .mem) (𝓡 .run) (κs .0) (qs .0) (a .0) (𝓣 .C) (𝓣 .Λ) (fmOf 𝓤 H (W .laws) 𝓣)
-    (cited 𝓤 H (TurnReset 𝓤 H A (𝓜 .mem) (𝓡 .run)) 𝓜 𝓡 code.env #turn-reset turn-reset-def.routine code.calls-capi·turn·turn-reset (turn-reset-thm.met 𝓤 H 𝓜 𝓖 𝓡))))
+    (cited 𝓤 H (TurnReset 𝓤 H A (𝓜 .mem) (𝓡 .run)) 𝓜 𝓡 code.env #turn-reset turn-reset-def.routine code.calls-cevents·turn·turn-reset (turn-reset-thm.met 𝓤 H 𝓜 𝓖 𝓡))))

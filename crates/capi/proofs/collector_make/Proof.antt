@@ -32,10 +32,10 @@ use denote.Triple.Spec.{tripleOf}
 use denote.Triple.Statement.{Contract, Triple}
 use denote.Triple.Table.{entered, cited}
 use Rattle.crecord.specs.Flat.{identityFrom}
-use Rattle.capi.specs.Events.{leftMade, onMaking}
+use Rattle.cevents.specs.Events.{leftMade, onMaking}
 use Rattle.crecord.specs.declared.record.Given.{Given}
 use Rattle.crecord.specs.declared.record.Record.{Record}
-use Rattle.capi.specs.declared.turn.MadeTurn.{MadeTurn}
+use Rattle.cevents.specs.declared.turn.MadeTurn.{MadeTurn}
 use Rattle.capi.proofs.Held.{given-val, told-val, spells, parts-of, ptr-val, Held, opens-record, closes-record, bytes-val, calls-for, free-at, ended, Walk, ends, meets-by}
 use Rattle.crecord.proofs.record.Given as G
 use Rattle.crecord.proofs.record.Given.Laws as G′
@@ -43,12 +43,12 @@ use Rattle.crecord.proofs.record.Record as R
 use Rattle.crecord.proofs.record.Record.Laws as R′
 use Rattle.crecord.proofs.record.Told as T
 use Rattle.crecord.proofs.record.Told.Laws as T′
-use Rattle.capi.proofs.turn.MadeTurn as U
-use Rattle.capi.proofs.turn.MadeTurn.Laws as U′
-use Rattle.capi.proofs.turn.turn_make as turn-make
-use Rattle.capi.proofs.turn.turn_make.Symbol as turn-make-def
-use Rattle.capi.proofs.turn.turn_make.Symbol.{name as #turn-make}
-use Rattle.capi.proofs.turn.turn_make.Met as turn-make-thm
+use Rattle.cevents.proofs.turn.MadeTurn as U
+use Rattle.cevents.proofs.turn.MadeTurn.Laws as U′
+use Rattle.cevents.proofs.turn.turn_make as turn-make
+use Rattle.cevents.proofs.turn.turn_make.Symbol as turn-make-def
+use Rattle.cevents.proofs.turn.turn_make.Symbol.{name as #turn-make}
+use Rattle.cevents.proofs.turn.turn_make.Met as turn-make-thm
 use Rattle.capi.proofs.collector_make.Key.{name as #collector-make}
 use Rattle.capi.proofs.collector_make as f
 use Rattle.capi.proofs.collector_make.Statement as stated
@@ -131,5 +131,5 @@ collector-make-spec 𝓤 H 𝓜 𝓖 𝓡 =
     (meets-by 𝓤 H A W f.ended (f.clauses 𝓤 H A (𝓜 .mem) (𝓡 .run)) code.function 𝓣 (λ κs. (ptr-vals, (uint-vals w64, (uint-vals w16, (uint-vals w16, (uint-vals w16, (slice-vals, tt)))))))
     (λ κs. (mut-tells (named 0) (κs .0) R.the-row, (uint-tells w64, (uint-tells w16, (uint-tells w16, (uint-tells w16, (shr-slice-tells (named 1) (κs .1 .0) u8, tt)))))))
     (λ κs qs bounds a _ are. walk 𝓤 H A W (𝓜 .mem) (𝓡 .run) (κs .0) (κs .1 .0) (qs .0) (qs .1 .0) (a .0) (record { number = a .1 .0; vendor = a .1 .1 .0; product = a .1 .1 .1 .0; release = a .1 .1 .1 .1 .0 }) (a .1 .1 .1 .1 .1 .0) (𝓣 .C) (𝓣 .Λ) (fmOf 𝓤 H (W .laws) 𝓣)
-    (cited 𝓤 H (TurnMake 𝓤 H A (𝓜 .mem) (𝓡 .run)) 𝓜 𝓡 code.env #turn-make turn-make-def.routine code.calls-capi·turn·turn-make (turn-make-thm.met 𝓤 H 𝓜 𝓖 𝓡))
+    (cited 𝓤 H (TurnMake 𝓤 H A (𝓜 .mem) (𝓡 .run)) 𝓜 𝓡 code.env #turn-make turn-make-def.routine code.calls-cevents·turn·turn-make (turn-make-thm.met 𝓤 H 𝓜 𝓖 𝓡))
     (are .1 .0) (are .1 .1 .0) (are .1 .1 .1 .0) (are .1 .1 .1 .1 .0) (are .1 .1 .1 .1 .1 .0 .0 .1)))

@@ -1,0 +1,4 @@
+pub mod Asked
+pub mod Never
+pub mod Turns
+pub mod Ways

@@ -1,0 +1,61 @@
+-- `any_in` meets its contract. Assumes nothing.
+use mathlib.Core.Path.{sym, _∙_}
+use borrow.Author.Tests.{not-true, not-false}
+use Rattle.machine.specs.Machine as machine
+use Rattle.cevents.specs.Events.{lent}
+use Rattle.cevents.proofs.Turns.{undecoded, decoded}
+use borrow.Author.Needs.{needs}
+use Rattle.cevents.proofs.turn.any_in.Statement.{statement}
+use Rattle.cevents.proofs.turn.any_in.Tie as tie
+
+decodes-requires : tie.Need-decodes-requires
+decodes-requires c κs = search needs
+
+undecoded-requires : tie.Need-undecoded-requires
+undecoded-requires c κs = search needs
+
+returns : tie.Need-returns
+unfolding lent
+returns c =
+    λ p.
+    let a = c .before .before .before .before .before .args in
+    undecoded (a .given) (a .flat) _ (machine.bulkIn (a .buffer .now)) (p) (a .medium .now) _ (sym (c .before .before .decodes .ensures) ∙ not-true _ (c .before .if1 .taken)) (c .undecoded .ensures .0) (c .undecoded .ensures .1)
+
+identity-from-requires : tie.Need-identity-from-requires
+identity-from-requires c κs = search needs
+
+state-from-requires : tie.Need-state-from-requires
+state-from-requires c κs = search needs
+
+in-parts-requires : tie.Need-in-parts-requires
+in-parts-requires c κs = search needs
+
+told-requires : tie.Need-told-requires
+told-requires c κs = search needs
+
+flat-of-requires : tie.Need-flat-of-requires
+flat-of-requires c κs = search needs
+
+same-length : tie.Need-same-length
+same-length c = search needs
+
+returns-2 : tie.Need-returns-2
+returns-2 c =
+    λ p.
+    let a = c .before .before .before .before .before .before .before .before .before .before .before .before .before .args in
+    decoded (a .given) (a .flat) _ (machine.bulkIn (a .buffer .now)) (p) (a .medium .now) _ _ _ (c .before .before .before .before .before .in-parts .result .state) (c .before .before .before .before .before .in-parts .result .answer) _ _ _ (sym (c .before .before .before .before .before .before .before .before .before .before .decodes .ensures) ∙ not-false _ (c .before .before .before .before .before .before .before .before .before .if1 .left)) (c .before .before .before .before .before .before .before .before .identity-from .ensures) (c .before .before .before .before .before .before .before .state-from .ensures) (c .before .before .before .before .before .in-parts .ensures p) (c .before .told .ensures) (c .flat-of .ensures)
+
+pub any-in-spec : {M : Type 1} → statement M
+any-in-spec =
+    tie.close
+    (tie.spec
+    decodes-requires
+    undecoded-requires
+    returns
+    identity-from-requires
+    state-from-requires
+    in-parts-requires
+    told-requires
+    flat-of-requires
+    same-length
+    returns-2)

@@ -1,0 +1,59 @@
+-- `any_out` meets its contract. Assumes nothing.
+use mathlib.Core.Path.{sym, _∙_}
+use borrow.Author.Tests.{not-true, not-false}
+use Rattle.machine.specs.Machine as machine
+use Rattle.cevents.specs.Events.{lent}
+use Rattle.cevents.proofs.Turns.{undecoded, decoded}
+use borrow.Author.Needs.{needs}
+use Rattle.cevents.proofs.turn.any_out.Statement.{statement}
+use Rattle.cevents.proofs.turn.any_out.Tie as tie
+
+decodes-requires : tie.Need-decodes-requires
+decodes-requires c κs = search needs
+
+undecoded-requires : tie.Need-undecoded-requires
+undecoded-requires c κs = search needs
+
+returns : tie.Need-returns
+unfolding lent
+returns c =
+    let a = c .before .before .before .before .before .args in
+    undecoded (a .given) (a .flat) _ (machine.bulkOut (a .packet .now)) (a .part .now) (a .medium .now) _ (sym (c .before .before .decodes .ensures) ∙ not-true _ (c .before .if1 .taken)) (c .undecoded .ensures .0) (c .undecoded .ensures .1)
+
+identity-from-requires : tie.Need-identity-from-requires
+identity-from-requires c κs = search needs
+
+state-from-requires : tie.Need-state-from-requires
+state-from-requires c κs = search needs
+
+out-parts-requires : tie.Need-out-parts-requires
+out-parts-requires c κs = search needs
+
+told-requires : tie.Need-told-requires
+told-requires c κs = search needs
+
+flat-of-requires : tie.Need-flat-of-requires
+flat-of-requires c κs = search needs
+
+same-length : tie.Need-same-length
+same-length c = search needs
+
+returns-2 : tie.Need-returns-2
+returns-2 c =
+    let a = c .before .before .before .before .before .before .before .before .before .before .before .before .before .before .args in
+    decoded (a .given) (a .flat) _ (machine.bulkOut (a .packet .now)) (a .part .now) (a .medium .now) _ _ _ (c .before .before .before .before .before .out-parts .result .state) (c .before .before .before .before .before .out-parts .result .answer) _ _ _ (sym (c .before .before .before .before .before .before .before .before .before .before .before .decodes .ensures) ∙ not-false _ (c .before .before .before .before .before .before .before .before .before .before .if1 .left)) (c .before .before .before .before .before .before .before .before .before .identity-from .ensures) (c .before .before .before .before .before .before .before .before .state-from .ensures) (c .before .before .before .before .before .out-parts .ensures) (c .before .told .ensures) (c .flat-of .ensures)
+
+pub any-out-spec : {M : Type 1} → statement M
+any-out-spec =
+    tie.close
+    (tie.spec
+    decodes-requires
+    undecoded-requires
+    returns
+    identity-from-requires
+    state-from-requires
+    out-parts-requires
+    told-requires
+    flat-of-requires
+    same-length
+    returns-2)
