@@ -2,7 +2,7 @@
 ghost use mathlib.Core.Bool.{true};
 ghost use mathlib.Core.Path.{_≡_};
 ghost use Rattle.machine.specs.Begin.{hostOf, hasOf, senseOf, ownStatus, replyOf, dataStage, firstStage};
-ghost use Rattle.machine.specs.Begin.{haltsIn, haltsOut, sensed, staged, begun};
+ghost use Rattle.machine.specs.Begin.{haltsIn, haltsOut, sensed, staged};
 ghost use Rattle.begin.specs.Near.{isNear, begunNear};
 use bot::cbw::Header;
 use bot::csw::Status;
@@ -174,30 +174,6 @@ fn staged(ending: Ending, moves: Transfer, plan: Plan, unit: LogicalUnit) -> Sta
     }
 }
 
-fn begun(header: Header, plan: Plan, state: State) -> State
-    requires { ⌜ isNear plan ≡ true ⌝ }
-    ensures { λ r. ⌜ r ≡ begun header plan state ⌝ }
-{
-    let unit = state.unit;
-    let link = state.link;
-    let found = unit.sense;
-    let case = case_of(host_of(header), has_of(plan));
-    let moves = case.moves;
-    let halt = case.halt;
-    let ending = case.ending;
-    let sense = sensed(ending, plan, found);
-    let haltin = halts_in(halt, link.haltin);
-    let haltout = halts_out(halt, link.haltout);
-    let stage = staged(ending, moves, plan, unit);
-    let task = Task {
-        stage,
-        tag: header.tag,
-        announced: header.announced,
-        residue: header.announced,
-    };
-    moved(state, sense, haltin, haltout, task)
-}
-
 fn is_near(plan: Plan) -> bool
     ensures { λ r. ⌜ r ≡ isNear plan ⌝ }
 {
@@ -217,5 +193,22 @@ pub fn begin(header: Header, plan: Plan, state: State) -> State
     if !is_near(plan) {
         return state;
     }
-    begun(header, plan, state)
+    let unit = state.unit;
+    let link = state.link;
+    let found = unit.sense;
+    let case = case_of(host_of(header), has_of(plan));
+    let moves = case.moves;
+    let halt = case.halt;
+    let ending = case.ending;
+    let sense = sensed(ending, plan, found);
+    let haltin = halts_in(halt, link.haltin);
+    let haltout = halts_out(halt, link.haltout);
+    let stage = staged(ending, moves, plan, unit);
+    let task = Task {
+        stage,
+        tag: header.tag,
+        announced: header.announced,
+        residue: header.announced,
+    };
+    moved(state, sense, haltin, haltout, task)
 }

@@ -2,6 +2,7 @@
 use mathlib.Core.Path.{sym, _∙_}
 use borrow.Author.Tests.{not-true, not-false}
 use Rattle.wire.specs.Choice.{if_then_else_}
+use Rattle.machine.specs.Begin.{begunBy, begun}
 use Rattle.begin.specs.Near.{begunNear}
 use borrow.Author.Needs.{needs}
 use Rattle.begin.proofs.command.begin.Statement.{statement}
@@ -14,12 +15,47 @@ returns : tie.Need-returns
 unfolding begunNear if_then_else_
 returns c = simp (sym (c .before .is-near .ensures) ∙ not-true _ (c .if1 .taken))
 
-begun-requires : tie.Need-begun-requires
-begun-requires c κs = sym (c .before .is-near .ensures) ∙ not-false _ (c .if1 .left)
+host-of-requires : tie.Need-host-of-requires
+host-of-requires c κs = search needs
+
+has-of-requires : tie.Need-has-of-requires
+has-of-requires c κs = search needs
+
+case-of-requires : tie.Need-case-of-requires
+case-of-requires c κs = search needs
+
+sensed-requires : tie.Need-sensed-requires
+sensed-requires c κs = search needs
+
+halts-in-requires : tie.Need-halts-in-requires
+halts-in-requires c κs = search needs
+
+halts-out-requires : tie.Need-halts-out-requires
+halts-out-requires c κs = search needs
+
+staged-requires : tie.Need-staged-requires
+staged-requires c κs = sym (c .before .before .before .before .before .before .before .before .before .before .is-near .ensures) ∙ not-false _ (c .before .before .before .before .before .before .before .before .before .if1 .left)
+
+moved-requires : tie.Need-moved-requires
+moved-requires c κs = search needs
 
 returns-2 : tie.Need-returns-2
-unfolding begunNear if_then_else_
-returns-2 c = simp (sym (c .before .before .is-near .ensures) ∙ not-false _ (c .before .if1 .left)) (c .begun .ensures)
+unfolding begunNear begun begunBy if_then_else_
+returns-2 c =
+    simp (sym (c .before .before .before .before .before .before .before .before .before .before .before .before .is-near .ensures) ∙ not-false _ (c .before .before .before .before .before .before .before .before .before .before .before .if1 .left), sym (c .before .before .before .before .before .before .before .host-of .ensures), sym (c .before .before .before .before .before .before .has-of .ensures), sym (c .before .before .before .before .before .case-of .ensures), sym (c .before .before .before .before .sensed .ensures), sym (c .before .before .before .halts-in .ensures), sym (c .before .before .halts-out .ensures), sym (c .before .staged .ensures)) (c .moved .ensures)
 
 pub begin-spec : {M : Type 1} → statement M
-begin-spec = tie.close (tie.spec is-near-requires returns begun-requires returns-2)
+begin-spec =
+    tie.close
+    (tie.spec
+    is-near-requires
+    returns
+    host-of-requires
+    has-of-requires
+    case-of-requires
+    sensed-requires
+    halts-in-requires
+    halts-out-requires
+    staged-requires
+    moved-requires
+    returns-2)
