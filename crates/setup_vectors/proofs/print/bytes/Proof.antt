@@ -2,8 +2,8 @@
 use Prim.Native.Nat.{_≤_, _-_}
 use native.Mathlib.Omega.{arith}
 use borrow.Author.Needs.{needs}
-use Rattle.request_vectors.proofs.print.bytes.Statement.{statement}
-use Rattle.request_vectors.proofs.print.bytes.Tie as tie
+use Rattle.setup_vectors.proofs.print.bytes.Statement.{statement}
+use Rattle.setup_vectors.proofs.print.bytes.Tie as tie
 
 abbrev Inv-loop : tie.InvT-loop
 Inv-loop s n i₀ i = i ≤ n
