@@ -3,7 +3,7 @@ ghost use mathlib.Core.Bool.{true};
 ghost use mathlib.Core.Path.{_≡_};
 ghost use Rattle.machine.specs.Begin.{hostOf, hasOf, senseOf, ownStatus, replyOf, dataStage, firstStage};
 ghost use Rattle.machine.specs.Begin.{haltsIn, haltsOut, sensed, staged};
-ghost use Rattle.begin.specs.Near.{isNear, begunNear};
+ghost use Rattle.begin.specs.InRange.{isInRange, begunInRange};
 use bot::cbw::Header;
 use bot::csw::Status;
 use cases::Ending;
@@ -85,7 +85,7 @@ fn reply_of(kind: ReplyKind, unit: LogicalUnit) -> Reply
 }
 
 fn data_stage(plan: Plan, unit: LogicalUnit) -> Stage
-    requires { ⌜ isNear plan ≡ true ⌝ }
+    requires { ⌜ isInRange plan ≡ true ⌝ }
     ensures { λ r. ⌜ r ≡ dataStage plan unit ⌝ }
 {
     match plan {
@@ -113,7 +113,7 @@ fn data_stage(plan: Plan, unit: LogicalUnit) -> Stage
 }
 
 fn first_stage(moves: Transfer, plan: Plan, unit: LogicalUnit) -> Stage
-    requires { ⌜ isNear plan ≡ true ⌝ }
+    requires { ⌜ isInRange plan ≡ true ⌝ }
     ensures { λ r. ⌜ r ≡ firstStage moves plan unit ⌝ }
 {
     match moves {
@@ -163,7 +163,7 @@ fn sensed(ending: Ending, plan: Plan, found: Sense) -> Sense
 }
 
 fn staged(ending: Ending, moves: Transfer, plan: Plan, unit: LogicalUnit) -> Stage
-    requires { ⌜ isNear plan ≡ true ⌝ }
+    requires { ⌜ isInRange plan ≡ true ⌝ }
     ensures { λ r. ⌜ r ≡ staged ending moves plan unit ⌝ }
 {
     match ending {
@@ -174,8 +174,8 @@ fn staged(ending: Ending, moves: Transfer, plan: Plan, unit: LogicalUnit) -> Sta
     }
 }
 
-fn is_near(plan: Plan) -> bool
-    ensures { λ r. ⌜ r ≡ isNear plan ⌝ }
+fn is_in_range(plan: Plan) -> bool
+    ensures { λ r. ⌜ r ≡ isInRange plan ⌝ }
 {
     match plan {
         Plan::Failed(_) => true,
@@ -186,11 +186,11 @@ fn is_near(plan: Plan) -> bool
     }
 }
 
-// The state once the command is accepted. No unit has a plan that is not near; one leaves the state as it was.
+// The state once the command is accepted. No unit has a plan that is not in range; one leaves the state as it was.
 pub fn begin(header: Header, plan: Plan, state: State) -> State
-    ensures { λ r. ⌜ r ≡ begunNear header plan state ⌝ }
+    ensures { λ r. ⌜ r ≡ begunInRange header plan state ⌝ }
 {
-    if !is_near(plan) {
+    if !is_in_range(plan) {
         return state;
     }
     let unit = state.unit;

@@ -3,17 +3,17 @@ use mathlib.Core.Path.{sym, _∙_}
 use borrow.Author.Tests.{not-true, not-false}
 use Rattle.wire.specs.Choice.{if_then_else_}
 use Rattle.machine.specs.Begin.{begunBy, begun}
-use Rattle.begin.specs.Near.{begunNear}
+use Rattle.begin.specs.InRange.{begunInRange}
 use borrow.Author.Needs.{needs}
 use Rattle.begin.proofs.command.begin.Statement.{statement}
 use Rattle.begin.proofs.command.begin.Tie as tie
 
-is-near-requires : tie.Need-is-near-requires
-is-near-requires c κs = search needs
+is-in-range-requires : tie.Need-is-in-range-requires
+is-in-range-requires c κs = search needs
 
 returns : tie.Need-returns
-unfolding begunNear if_then_else_
-returns c = simp (sym (c .before .is-near .ensures) ∙ not-true _ (c .if1 .taken))
+unfolding begunInRange if_then_else_
+returns c = simp (sym (c .before .is-in-range .ensures) ∙ not-true _ (c .if1 .taken))
 
 host-of-requires : tie.Need-host-of-requires
 host-of-requires c κs = search needs
@@ -34,21 +34,21 @@ halts-out-requires : tie.Need-halts-out-requires
 halts-out-requires c κs = search needs
 
 staged-requires : tie.Need-staged-requires
-staged-requires c κs = sym (c .before .before .before .before .before .before .before .before .before .before .is-near .ensures) ∙ not-false _ (c .before .before .before .before .before .before .before .before .before .if1 .left)
+staged-requires c κs = sym (c .before .before .before .before .before .before .before .before .before .before .is-in-range .ensures) ∙ not-false _ (c .before .before .before .before .before .before .before .before .before .if1 .left)
 
 moved-requires : tie.Need-moved-requires
 moved-requires c κs = search needs
 
 returns-2 : tie.Need-returns-2
-unfolding begunNear begun begunBy if_then_else_
+unfolding begunInRange begun begunBy if_then_else_
 returns-2 c =
-    simp (sym (c .before .before .before .before .before .before .before .before .before .before .before .before .is-near .ensures) ∙ not-false _ (c .before .before .before .before .before .before .before .before .before .before .before .if1 .left), sym (c .before .before .before .before .before .before .before .host-of .ensures), sym (c .before .before .before .before .before .before .has-of .ensures), sym (c .before .before .before .before .before .case-of .ensures), sym (c .before .before .before .before .sensed .ensures), sym (c .before .before .before .halts-in .ensures), sym (c .before .before .halts-out .ensures), sym (c .before .staged .ensures)) (c .moved .ensures)
+    simp (sym (c .before .before .before .before .before .before .before .before .before .before .before .before .is-in-range .ensures) ∙ not-false _ (c .before .before .before .before .before .before .before .before .before .before .before .if1 .left), sym (c .before .before .before .before .before .before .before .host-of .ensures), sym (c .before .before .before .before .before .before .has-of .ensures), sym (c .before .before .before .before .before .case-of .ensures), sym (c .before .before .before .before .sensed .ensures), sym (c .before .before .before .halts-in .ensures), sym (c .before .before .halts-out .ensures), sym (c .before .staged .ensures)) (c .moved .ensures)
 
 pub begin-spec : {M : Type 1} → statement M
 begin-spec =
     tie.close
     (tie.spec
-    is-near-requires
+    is-in-range-requires
     returns
     host-of-requires
     has-of-requires

@@ -9,14 +9,14 @@ use Rattle.scsi.specs.declared.command.Plan.{Plan}
 use Rattle.scsi.specs.declared.command.Plan.the-variants.{Read}
 use Rattle.machine.specs.Begin.{dataStage}
 use Rattle.machine.specs.Fits.{mostBlocks}
-use Rattle.begin.specs.Near.{isNear}
+use Rattle.begin.specs.InRange.{isInRange}
 use borrow.Author.Needs.{needs}
 use Rattle.begin.proofs.command.data_stage.Statement.{statement}
 use Rattle.begin.proofs.command.data_stage.Tie as tie
 
-near-read : (p : Plan) (block count : ℕ) → isNear p ≡ true → p ≡ Read block count → block ≤ mostBlocks
-unfolding isNear
-near-read p block count n e = leb-true _ _ (sym (ap isNear e) ∙ n)
+read-in-range : (p : Plan) (block count : ℕ) → isInRange p ≡ true → p ≡ Read block count → block ≤ mostBlocks
+unfolding isInRange
+read-in-range p block count n e = leb-true _ _ (sym (ap isInRange e) ∙ n)
 
 enum-told : tie.Need-enum-told
 enum-told c = search needs
@@ -37,7 +37,7 @@ enum-known-plan-2 : tie.Need-enum-known-plan-2
 enum-known-plan-2 c = search needs
 
 mul-t14 : tie.Need-mul-t14
-mul-t14 c = let h = near-read _ _ _ (c .before .before .before .pre) (c .before .plan2 .given .1) in record { fits = omega arith }
+mul-t14 c = let h = read-in-range _ _ _ (c .before .before .before .pre) (c .before .plan2 .given .1) in record { fits = omega arith }
 
 cast-t15 : tie.Need-cast-t15
 cast-t15 c = search needs

@@ -10,12 +10,12 @@ use Rattle.machine.specs.Fits.{mostBlocks}
 use Rattle.machine.specs.Begin.{begun}
 
 -- A plan whose first block is within the largest unit's size, so that its place in bytes is a u32: so are all that a unit has.
-unfoldable pub isNear : Plan → Bool
-isNear (Failed s) = true
-isNear Nothing = true
-isNear (Reply k n) = true
-isNear (Read block count) = leb block mostBlocks
-isNear (Write block count) = true
+unfoldable pub isInRange : Plan → Bool
+isInRange (Failed s) = true
+isInRange Nothing = true
+isInRange (Reply k n) = true
+isInRange (Read block count) = leb block mostBlocks
+isInRange (Write block count) = true
 
-unfoldable pub begunNear : Header → Plan → State → State
-begunNear h p s = if isNear p then begun h p s else s
+unfoldable pub begunInRange : Header → Plan → State → State
+begunInRange h p s = if isInRange p then begun h p s else s

@@ -1,8 +1,8 @@
--- `is_near` meets its contract. Assumes nothing.
-use Rattle.begin.specs.Near.{isNear}
+-- `is_in_range` meets its contract. Assumes nothing.
+use Rattle.begin.specs.InRange.{isInRange}
 use borrow.Author.Needs.{needs}
-use Rattle.begin.proofs.command.is_near.Statement.{statement}
-use Rattle.begin.proofs.command.is_near.Tie as tie
+use Rattle.begin.proofs.command.is_in_range.Statement.{statement}
+use Rattle.begin.proofs.command.is_in_range.Tie as tie
 
 enum-told : tie.Need-enum-told
 enum-told c = search needs
@@ -20,27 +20,27 @@ enum-told-4 : tie.Need-enum-told-4
 enum-told-4 c = search needs
 
 returns : tie.Need-returns
-unfolding isNear
+unfolding isInRange
 returns c = simp (c .enum-told .given .1)
 
 returns-2 : tie.Need-returns-2
-unfolding isNear
+unfolding isInRange
 returns-2 c = simp (c .enum-told2 .given .1)
 
 returns-3 : tie.Need-returns-3
-unfolding isNear
+unfolding isInRange
 returns-3 c = simp (c .enum-told3 .given .1)
 
 returns-4 : tie.Need-returns-4
-unfolding isNear
+unfolding isInRange
 returns-4 c = simp (c .before .plan .given .1)
 
 returns-5 : tie.Need-returns-5
-unfolding isNear
+unfolding isInRange
 returns-5 c = simp (c .enum-told4 .given .1)
 
-pub is-near-spec : {M : Type 1} → statement M
-is-near-spec =
+pub is-in-range-spec : {M : Type 1} → statement M
+is-in-range-spec =
     tie.close
     (tie.spec
     enum-told
