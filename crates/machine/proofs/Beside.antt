@@ -11,11 +11,14 @@ use Rattle.wire.specs.Bits.{bits, clear}
 use Rattle.wire.specs.Numbers.{value}
 use Rattle.wire.specs.Slices.{bytesAt, zeros, startsWith}
 use Rattle.wire.proofs.Cases.{both, if-false}
-use Rattle.scsi.specs.Command.{blockLength, commandOf, commands, planBy, planOf}
+use Rattle.scsi.specs.Command.{blockLength, commandOf, commands}
 use Rattle.scsi.specs.Sense.{noSense}
+use Rattle.scsi.specs.declared.command.Plan.{Plan}
+use Rattle.scsi.proofs.Plans.{test-has-nothing}
 use Rattle.cases.specs.Cases.{counted, meeting, caseOf}
 use Rattle.bot.specs.Cbw.{cbwSignature, inRange, readable, headerOf}
 use Rattle.bot.specs.declared.csw.Status.the-variants.{Passed}
+use Rattle.machine.specs.declared.wrapper.Wrapper.the-variants.{Good}
 use Rattle.machine.specs.declared.record.Stage.{Stage}
 use Rattle.machine.specs.declared.record.Stage.the-variants.{StatusDue}
 use Rattle.machine.specs.declared.record.Device.{Device}
@@ -110,8 +113,8 @@ after-test : Device → Device
 after-test d = withState d (moved (d .state) noSense (d .state .link .haltin) (d .state .link .haltout) (task (StatusDue Passed) 0 0 0))
 
 takes : (d : Device) (m : List ℕ) → onWrapper (wrapperOf (d .state .unit .blocks) test) d m ≡ effects Ack (after-test d) m
-unfolding after-test onWrapper wrapperOf accepted readable startsWith inRange clear bits headerOf bytesAt value blockLength commandOf look commands planOf planBy zeros begun begunBy hostOf hasOf caseOf counted meeting sensed senseOf haltsIn haltsOut staged firstStage ownStatus if_then_else_ _and_
-takes d m = refl
+unfolding after-test onWrapper wrapperOf accepted readable startsWith inRange clear bits headerOf bytesAt value blockLength commandOf look commands zeros begun begunBy hostOf hasOf caseOf counted meeting sensed senseOf haltsIn haltsOut staged firstStage ownStatus if_then_else_ _and_
+takes d m = ap (λ (p : Plan). onWrapper (Good (headerOf test) p) d m) (test-has-nothing (d .state .unit .blocks))
 
 two : (d : Device) (m : List ℕ) (e f : Event) (d₁ : Device) (x y : List ℕ) (o : Out) → step d m e ≡ out Ack d₁ m x → step d₁ m f ≡ o → o .answer ≡ Nak
     → answers (run d m (e ∷ f ∷ []) .replies) ≡ (Ack ∷ Nak ∷ [])

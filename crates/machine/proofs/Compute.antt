@@ -3,9 +3,7 @@ use Rattle.wire.specs.Choice.{if_then_else_, _and_, look}
 use Rattle.wire.specs.Slices.{bytesAt, zeros, startsWith, fits as roomFor, placed}
 use Rattle.wire.specs.Numbers.{low, value, decimal}
 use Rattle.wire.specs.Bits.{bits, clear}
-use Rattle.scsi.specs.Sense.{isNoSense}
-use Rattle.scsi.specs.Command.{cut, within, commands, commandOf, blockLength, planBy, planOf}
-use Rattle.scsi.specs.Reply.{senseData, padded, inquiryData, modeData, capacityData}
+use Rattle.scsi.proofs.Compute.{scsi-computes}
 use Rattle.cases.specs.Cases.{sameWay, counted, meeting, caseOf}
 use Rattle.bot.specs.Cbw.{inRange, readable, headerOf}
 use Rattle.bot.specs.Csw.{cswBytes}
@@ -23,5 +21,5 @@ use Rattle.machine.specs.Tally.{writeOf, beginning, following, taken, he
 use Rattle.machine.specs.Claim.{answers, lived, history, recovery, settingUp, goodTest, WrapperDue, isDrop, ends, isRefusal, isShut, shutAt, watch, watched}
 
 unfoldable pub computes : Unit {0}
-unfolding if_then_else_ _and_ look bytesAt zeros startsWith roomFor placed low value decimal bits clear isNoSense cut within commands commandOf blockLength planBy planOf senseData padded inquiryData modeData capacityData sameWay counted meeting caseOf inRange readable headerOf cswBytes deviceDescriptor configurationDescriptor utf16 stringDescriptor isNoData setAddress setConfiguration bare endpoints endpointOf targetOf served descriptors getDescriptor requests decided requestOf fresh noDevice withHalts droppedState dropped withAddress moved sizeFits numberFits addressFits isReady idleFits lockFits taskFits fits accepted wrapperOf mediumServed make reset needsConfigured flag endpointStatus haltIn haltOut clearHalt setHalt perform hostOf hasOf senseOf ownStatus replyOf dataStage firstStage haltsIn haltsOut sensed staged begunBy begun lockedState onWrapper cutShort gathered nextOut haltAtEnd storedBlock onData outStage packetOut handedOut onAsk afterStatus onStatus inStage packetIn where-lent check checks judged judgedOut onReset onControl onBulkOut onBulkIn step run writeOf beginning following taken heard heeded isAck noted observed stored answers lived history recovery settingUp goodTest WrapperDue isDrop ends isRefusal isShut shutAt watch watched outFits inFits cutState gatheredState storedState handedState nextIn inOrder
+unfolding if_then_else_ _and_ look bytesAt zeros startsWith roomFor placed low value decimal bits clear scsi-computes sameWay counted meeting caseOf inRange readable headerOf cswBytes deviceDescriptor configurationDescriptor utf16 stringDescriptor isNoData setAddress setConfiguration bare endpoints endpointOf targetOf served descriptors getDescriptor requests decided requestOf fresh noDevice withHalts droppedState dropped withAddress moved sizeFits numberFits addressFits isReady idleFits lockFits taskFits fits accepted wrapperOf mediumServed make reset needsConfigured flag endpointStatus haltIn haltOut clearHalt setHalt perform hostOf hasOf senseOf ownStatus replyOf dataStage firstStage haltsIn haltsOut sensed staged begunBy begun lockedState onWrapper cutShort gathered nextOut haltAtEnd storedBlock onData outStage packetOut handedOut onAsk afterStatus onStatus inStage packetIn where-lent check checks judged judgedOut onReset onControl onBulkOut onBulkIn step run writeOf beginning following taken heard heeded isAck noted observed stored answers lived history recovery settingUp goodTest WrapperDue isDrop ends isRefusal isShut shutAt watch watched outFits inFits cutState gatheredState storedState handedState nextIn inOrder
 computes = tt

@@ -1,11 +1,12 @@
--- What a plan goes by and what it never passes: the block's first ten bytes; the unit's blocks and the reply's length. Assumes nothing.
+-- What a plan goes by and what it never passes: the block's first ten bytes; the unit's blocks and the reply's length. And the one of a block of
+-- zeros. Assumes nothing.
 use Prim.Native.Nat.{ℕ, _+_, _≤_, _<_}
 use mathlib.Core.Path.{_≡_, refl, sym, ap, _∙_}
 use mathlib.Core.List.{List}
 use native.Mathlib.Omega.{arith}
 use lib.Dec.{ltb}
 use borrow.Author.Tests.{leb-true, ltb-true}
-use Rattle.wire.specs.Slices.{byteAt, bytesAt}
+use Rattle.wire.specs.Slices.{byteAt, bytesAt, zeros}
 use Rattle.wire.proofs.Cases.{by-if, look-all}
 use Rattle.wire.proofs.Lists.{bytes-same}
 use Rattle.scsi.specs.declared.command.Plan.{Plan}
@@ -13,6 +14,7 @@ use Rattle.scsi.specs.declared.command.Plan.the-variants.{Failed, Nothin
 use Rattle.scsi.specs.declared.reply.ReplyKind.{ReplyKind}
 use Rattle.scsi.specs.declared.reply.ReplyKind.the-variants as kind
 use Rattle.scsi.specs.Command.{Command, cut, within, address, count, commands, unknown, commandOf, planBy, planOf}
+use Rattle.scsi.proofs.Compute.{scsi-computes}
 use Rattle.scsi.proofs.Replies.{replySize}
 
 abbrev pub PlanFits : ℕ → Plan → Type 0
@@ -90,3 +92,9 @@ plan-front b n = by-front (byteAt b 0) n b
 
 pub plan-bytes : (b b′ : List ℕ) (n : ℕ) → ((i : ℕ) → i < 10 → byteAt b i ≡ byteAt b′ i) → planOf b n ≡ planOf b′ n
 plan-bytes b b′ n h = plan-front b n ∙ ap (λ (s : List ℕ). planOf s n) (bytes-same 10 0 b b′ h) ∙ sym (plan-front b′ n)
+
+-- ---- a block of zeros is Test Unit Ready, which has nothing
+
+pub test-has-nothing : (blocks : ℕ) → planOf (zeros 16) blocks ≡ Nothing
+unfolding scsi-computes
+test-has-nothing blocks = refl

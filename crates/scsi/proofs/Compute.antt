@@ -1,0 +1,12 @@
+-- To unfold `scsi-computes` is to unfold what the command reader and the replies are made of, so that closed ones compute.
+use Rattle.wire.specs.Choice.{if_then_else_, _and_, look}
+use Rattle.wire.specs.Slices.{bytesAt, zeros}
+use Rattle.wire.specs.Numbers.{low, value}
+use Rattle.wire.specs.Bits.{bits, clear}
+use Rattle.scsi.specs.Sense.{isNoSense}
+use Rattle.scsi.specs.Command.{cut, within, commands, commandOf, blockLength, planBy, planOf}
+use Rattle.scsi.specs.Reply.{senseData, padded, inquiryData, modeData, capacityData}
+
+unfoldable pub scsi-computes : Unit {0}
+unfolding if_then_else_ _and_ look bytesAt zeros low value bits clear isNoSense cut within commands commandOf blockLength planBy planOf senseData padded inquiryData modeData capacityData
+scsi-computes = tt
