@@ -5,8 +5,8 @@
     in
     configure 1     address 5           clear in     set out     status in     msreset     maxlun
     descriptor device 18                (device, configuration, languages, vendor, product, serial)
-    cbw tag=7 len=36 in COMMAND         (tag, len, in or out, unit=, size=; what is left out is 1, 0, out, 0, the code's)
-COMMAND is a name with its numbers, or the block's bytes:
+    cbw tag=7 len=36 in COMMAND         (tag, len, in or out, unit=, size=, control=; what is left out is 1, 0, out, 0, the code's, 0)
+COMMAND is a name with its numbers, or the block's bytes, the control byte among them:
     test   sense 18   inquiry 36   modes 192   prevent 0   capacity   read 127 1   write 0 2   verify 0 1   block 12 00 00 00 24 00
 Answers: ack, nak, stall, silent, and data in these forms:
     data 00 01 ..      data none     data 64 x 00      csw tag=7 residue=0 passed
@@ -34,28 +34,31 @@ def setup(kind, request, value=0, index=0, length=0):
     return struct.pack("<BBHHH", kind, request, value, index, length)
 
 
-def block(words):
+def block(words, control):
     name, rest = words[0], words[1:]
-    n = [number(w) for w in rest] if name != "block" else []
-    ten = lambda code, flags=0: struct.pack(">BBIBHB", code, flags, n[0], 0, n[1], 0)
-    six = lambda code, *b: bytes([code, *b])
+    if name == "block":
+        if control:
+            raise ValueError("the control byte is one of the block's")
+        return octets(rest)
+    n = [number(w) for w in rest]
+    ten = lambda code, first, count: struct.pack(">BBIBHB", code, 0, first, 0, count, control)
+    six = lambda code, *b: bytes([code, *b, control])
     forms = {
-        "test": lambda: six(0x00, 0, 0, 0, 0, 0),
-        "sense": lambda: six(0x03, 0, 0, 0, n[0], 0),
-        "inquiry": lambda: six(0x12, 0, 0, 0, n[0], 0),
-        "modes": lambda: six(0x1A, 0, 0x3F, 0, n[0], 0),
-        "prevent": lambda: six(0x1E, 0, 0, 0, n[0], 0),
-        "capacity": lambda: bytes([0x25] + [0] * 9),
-        "read": lambda: ten(0x28),
-        "write": lambda: ten(0x2A),
-        "verify": lambda: ten(0x2F),
-        "block": lambda: octets(rest),
+        "test": lambda: six(0x00, 0, 0, 0, 0),
+        "sense": lambda: six(0x03, 0, 0, 0, n[0]),
+        "inquiry": lambda: six(0x12, 0, 0, 0, n[0]),
+        "modes": lambda: six(0x1A, 0, 0x3F, 0, n[0]),
+        "prevent": lambda: six(0x1E, 0, 0, 0, n[0]),
+        "capacity": lambda: ten(0x25, 0, 0),
+        "read": lambda: ten(0x28, *n),
+        "write": lambda: ten(0x2A, *n),
+        "verify": lambda: ten(0x2F, *n),
     }
     return forms[name]()
 
 
 def cbw(words):
-    fields = {"tag": 1, "len": 0, "unit": 0, "size": None}
+    fields = {"tag": 1, "len": 0, "unit": 0, "size": None, "control": 0}
     inward = False
     while words:
         w = words[0]
@@ -69,7 +72,7 @@ def cbw(words):
         else:
             break
         words = words[1:]
-    b = block(words)
+    b = block(words, fields["control"])
     size = len(b) if fields["size"] is None else fields["size"]
     head = b"USBC" + struct.pack("<IIBBB", fields["tag"], fields["len"], 0x80 if inward else 0, fields["unit"], size)
     return head + b.ljust(16, b"\0")

@@ -102,7 +102,21 @@ fn others() {
     planned(&[0xFF]);
 }
 
+// The control byte: LINK in Test Unit Ready's, NACA in Inquiry's, bit 1 in a Read's, LINK in one of a Read out of range; Read of block 7,
+// whose byte 5 is a part of the address; bits 3 to 7 in both lengths, with 07 in a byte past the first; an unknown code.
+fn control_bytes() {
+    block(0x0000_0000_0001_0000, 0x0000);
+    block(0x1200_0000_2404_0000, 0x0000);
+    block(0x2800_0000_0000_0000, 0x0102);
+    block(0x2800_0000_0080_0000, 0x0101);
+    block(0x2800_0000_0007_0000, 0x0100);
+    block(0x0000_0000_00F8_0000, 0x0007);
+    block(0x2500_0000_0000_0000, 0x00F8);
+    block(0x0F00_0000_0007_0000, 0x0007);
+}
+
 pub(crate) fn run() {
     ranges();
     others();
+    control_bytes();
 }

@@ -4,9 +4,9 @@ use Rattle.wire.specs.Slices.{bytesAt, zeros}
 use Rattle.wire.specs.Numbers.{low, value}
 use Rattle.wire.specs.Bits.{bits, clear}
 use Rattle.scsi.specs.Sense.{isNoSense}
-use Rattle.scsi.specs.Command.{cut, within, commands, commandOf, blockLength, planBy, planOf}
+use Rattle.scsi.specs.Command.{cut, within, commands, commandOf, blockLength, planBy, controlClear, planOf}
 use Rattle.scsi.specs.Reply.{senseData, padded, inquiryData, modeData, capacityData}
 
 unfoldable pub scsi-computes : Unit {0}
-unfolding if_then_else_ _and_ look bytesAt zeros low value bits clear isNoSense cut within commands commandOf blockLength planBy planOf senseData padded inquiryData modeData capacityData
+unfolding if_then_else_ _and_ look bytesAt zeros low value bits clear isNoSense cut within commands commandOf blockLength planBy controlClear planOf senseData padded inquiryData modeData capacityData
 scsi-computes = tt

@@ -6,6 +6,7 @@ use mathlib.Core.List.{List}
 use native.Mathlib.Omega.{arith}
 use lib.Dec.{ltb}
 use borrow.Author.Tests.{leb-true, ltb-true}
+use Rattle.wire.specs.Choice.{if_then_else_}
 use Rattle.wire.specs.Slices.{byteAt, bytesAt, zeros}
 use Rattle.wire.proofs.Cases.{by-if, look-all}
 use Rattle.wire.proofs.Lists.{bytes-same}
@@ -13,7 +14,8 @@ use Rattle.scsi.specs.declared.command.Plan.{Plan}
 use Rattle.scsi.specs.declared.command.Plan.the-variants.{Failed, Nothing, Reply, Read, Write}
 use Rattle.scsi.specs.declared.reply.ReplyKind.{ReplyKind}
 use Rattle.scsi.specs.declared.reply.ReplyKind.the-variants as kind
-use Rattle.scsi.specs.Command.{Command, cut, within, address, count, commands, unknown, commandOf, planBy, planOf}
+use Rattle.scsi.specs.Sense.{invalidField}
+use Rattle.scsi.specs.Command.{Command, cut, within, address, count, commands, unknown, commandOf, planBy, controlClear, planOf}
 use Rattle.scsi.proofs.Compute.{scsi-computes}
 use Rattle.scsi.proofs.Replies.{replySize}
 
@@ -67,12 +69,16 @@ every-row code =
 
 pub plan-fits : (b : List ℕ) (blocks : ℕ) → PlanFits blocks (planOf b blocks)
 unfolding planOf planBy
-plan-fits b blocks = by-if (PlanFits blocks) _ _ _ (λ _. every-row (byteAt b 0) blocks b) (λ _. tt)
+plan-fits b blocks =
+    by-if (PlanFits blocks) (controlClear b) _ _ (λ _. by-if (PlanFits blocks) _ _ _ (λ _. every-row (byteAt b 0) blocks b) (λ _. tt)) (λ _. tt)
 
 -- ---- a plan goes by the block's first ten bytes
 
+abbrev checked : Command → ℕ → List ℕ → Plan
+checked c n b = if c .control b then planBy c n b else Failed invalidField
+
 abbrev Fronted : Command → Type 0
-Fronted c = (n : ℕ) (b : List ℕ) → planBy c n b ≡ planBy c n (bytesAt 10 0 b)
+Fronted c = (n : ℕ) (b : List ℕ) → checked c n b ≡ checked c n (bytesAt 10 0 b)
 
 by-front : (code : ℕ) → Fronted (commandOf code)
 unfolding commandOf commands planBy bytesAt cut within
@@ -87,7 +93,7 @@ by-front code =
     (λ n b. refl)
 
 plan-front : (b : List ℕ) (n : ℕ) → planOf b n ≡ planOf (bytesAt 10 0 b) n
-unfolding planOf bytesAt
+unfolding planOf controlClear bytesAt
 plan-front b n = by-front (byteAt b 0) n b
 
 pub plan-bytes : (b b′ : List ℕ) (n : ℕ) → ((i : ℕ) → i < 10 → byteAt b i ≡ byteAt b′ i) → planOf b n ≡ planOf b′ n

@@ -8,7 +8,7 @@ use Rattle.scsi.specs.declared.command.Plan.{Plan}
 use Rattle.scsi.specs.declared.command.Plan.the-variants.{Failed, Nothing, Reply, Read, Write}
 use Rattle.scsi.specs.declared.reply.ReplyKind.{ReplyKind}
 use Rattle.scsi.specs.Sense.{IsSense, noSense, invalidCode, invalidField, outOfRange, dataPhase}
-use Rattle.scsi.specs.Command.{Command, cut, within, commands, unknown, commandOf, planBy, planOf}
+use Rattle.scsi.specs.Command.{Command, cut, within, commands, unknown, commandOf, planBy, controlClear, planOf}
 
 -- ---- the named ones
 
@@ -59,4 +59,5 @@ every-row code =
 
 pub sense-fits : (b : List ℕ) (blocks : ℕ) → SenseFits (planOf b blocks)
 unfolding planOf planBy
-sense-fits b blocks = by-if SenseFits _ _ _ (λ _. every-row (byteAt b 0) blocks b) (λ _. invalid-field)
+sense-fits b blocks =
+    by-if SenseFits (controlClear b) _ _ (λ _. by-if SenseFits _ _ _ (λ _. every-row (byteAt b 0) blocks b) (λ _. invalid-field)) (λ _. invalid-field)

@@ -1,5 +1,5 @@
--- What the device has for a command (document 01, "Commands"): one row for each operation code.
-use Prim.Native.Nat.{ℕ, _+_}
+-- What the device has for a command (document 01, "Commands"; document 02, A12): one row for each operation code.
+use Prim.Native.Nat.{ℕ, _+_, _-_}
 use mathlib.Core.Bool.{Bool, true}
 use mathlib.Core.List.{List, [], _∷_}
 use lib.Dec.{eqb, leb, ltb}
@@ -13,14 +13,17 @@ use Rattle.scsi.specs.declared.reply.ReplyKind.{ReplyKind}
 use Rattle.scsi.specs.declared.reply.ReplyKind.the-variants as kind
 use Rattle.scsi.specs.Sense.{invalidCode, invalidField, outOfRange}
 
--- A code's block length, its rule on the block's fields, and what a unit of so many blocks has for it.
+-- A code's block length, its rules on the control byte and on the other fields, and what a unit of so many blocks has for it.
 pub record Command : Type 0 where
   pub size : ℕ
+  pub control : List ℕ → Bool
   pub fields : List ℕ → Bool
   pub has : ℕ → List ℕ → Plan
 
-abbrev pub command : ℕ → (List ℕ → Bool) → (ℕ → List ℕ → Plan) → Command
-command n rule plan = record { size = n; fields = rule; has = plan }
+-- "Any known command with bit 0, 1 or 2 set in its last byte (5 or 9) now fails 05/24/00, among the field checks" (document 02, A12): the CONTROL byte
+-- (SPC-3, 4.3.4.7), whose bit 0 is LINK and bit 2 NACA.
+abbrev pub known : ℕ → (List ℕ → Bool) → (ℕ → List ℕ → Plan) → Command
+known n rule plan = record { size = n; control = λ b. clear 0 2 (byteAt b (n - 1)); fields = rule; has = plan }
 
 -- "send at most byte 4 bytes"
 unfoldable pub cut : ReplyKind → ℕ → List ℕ → Plan
@@ -46,35 +49,35 @@ rangedOf blocks b p = if unflagged b then within blocks b p else Failed invalidF
 
 -- The table's rows (SPC-3, 6; SBC-2, 5).
 abbrev pub testUnitReady : Command
-testUnitReady = command 6 (λ b. true) (λ n b. Nothing)
+testUnitReady = known 6 (λ b. true) (λ n b. Nothing)
 
 abbrev pub requestSense : Command
-requestSense = command 6 (λ b. clear 0 0 (byteAt b 1)) (λ n b. cut kind.Sense 18 b)
+requestSense = known 6 (λ b. clear 0 0 (byteAt b 1)) (λ n b. cut kind.Sense 18 b)
 
 abbrev pub inquiry : Command
-inquiry = command 6 (λ b. clear 0 0 (byteAt b 1) and eqb (byteAt b 2) 0) (λ n b. cut kind.Inquiry 36 b)
+inquiry = known 6 (λ b. clear 0 0 (byteAt b 1) and eqb (byteAt b 2) 0) (λ n b. cut kind.Inquiry 36 b)
 
 abbrev pub modeSense : Command
-modeSense = command 6 (λ b. eqb (byteAt b 2) 0x3F) (λ n b. cut kind.ModeSense 4 b)
+modeSense = known 6 (λ b. eqb (byteAt b 2) 0x3F) (λ n b. cut kind.ModeSense 4 b)
 
 abbrev pub preventAllow : Command
-preventAllow = command 6 (λ b. clear 0 0 (byteAt b 4)) (λ n b. Nothing)
+preventAllow = known 6 (λ b. clear 0 0 (byteAt b 4)) (λ n b. Nothing)
 
 abbrev pub readCapacity : Command
-readCapacity = command 10 (λ b. true) (λ n b. Reply kind.Capacity 8)
+readCapacity = known 10 (λ b. true) (λ n b. Reply kind.Capacity 8)
 
 abbrev pub read10 : Command
-read10 = command 10 (λ b. unflagged b) (λ n b. within n b (Read (address b) (count b)))
+read10 = known 10 (λ b. unflagged b) (λ n b. within n b (Read (address b) (count b)))
 
 abbrev pub write10 : Command
-write10 = command 10 (λ b. unflagged b) (λ n b. within n b (Write (address b) (count b)))
+write10 = known 10 (λ b. unflagged b) (λ n b. within n b (Write (address b) (count b)))
 
 abbrev pub verify10 : Command
-verify10 = command 10 (λ b. clear 1 1 (byteAt b 1) and unflagged b) (λ n b. within n b Nothing)
+verify10 = known 10 (λ b. clear 1 1 (byteAt b 1) and unflagged b) (λ n b. within n b Nothing)
 
--- "An operation code not in this table fails with 05/20/00"; its block has at least the code.
+-- "An operation code not in this table fails with 05/20/00"; its block has at least the code, and which byte is its control byte is not known.
 abbrev pub unknown : Command
-unknown = command 1 (λ b. true) (λ n b. Failed invalidCode)
+unknown = record { size = 1; control = λ b. true; fields = λ b. true; has = λ n b. Failed invalidCode }
 
 unfoldable pub commands : List (Row Command)
 commands =
@@ -99,5 +102,9 @@ blockLength code = commandOf code .size
 unfoldable pub planBy : Command → ℕ → List ℕ → Plan
 planBy c blocks b = if c .fields b then c .has blocks b else Failed invalidField
 
+-- Among the fields is the control byte: where it stands goes by the code's own length, not the wrapper's.
+unfoldable pub controlClear : List ℕ → Bool
+controlClear b = commandOf (byteAt b 0) .control b
+
 unfoldable pub planOf : List ℕ → ℕ → Plan
-planOf b blocks = planBy (commandOf (byteAt b 0)) blocks b
+planOf b blocks = if controlClear b then planBy (commandOf (byteAt b 0)) blocks b else Failed invalidField

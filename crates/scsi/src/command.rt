@@ -1,6 +1,6 @@
 // The command reader: a command block, read where it stands, and the number of blocks give what the device has for it.
 ghost use mathlib.Core.Path.{_≡_};
-ghost use Rattle.scsi.specs.Command.{blockLength, planOf, planBy, cut, rangedOf};
+ghost use Rattle.scsi.specs.Command.{blockLength, controlClear, planOf, planBy, cut, rangedOf};
 ghost use Rattle.scsi.specs.Command.{requestSense, inquiry, modeSense, preventAllow, read10, write10, verify10};
 use crate::reply::ReplyKind;
 use crate::sense::Sense;
@@ -32,9 +32,24 @@ pub fn block_length(code: u8) -> u8
     }
 }
 
+// A known command's last byte is its control byte. A host that sets LINK or NACA there, bits 0 and 2, would assume that we obey;
+// bit 1 is obsolete. The other five are ignored.
+fn is_control_clear(block: &[u8]) -> bool
+    ensures { λ r. ⌜ r ≡ controlClear (now (block .entry)) ⌝ }
+{
+    let size = block_length(byte(block, 0));
+    if size <= 1 {
+        return true;
+    }
+    byte(block, (size - 1) as usize) & 0x07 == 0
+}
+
 pub fn plan_of(block: &[u8], blocks: u32) -> Plan
     ensures { λ r. ⌜ r ≡ planOf (now (block .entry)) blocks ⌝ }
 {
+    if !is_control_clear(block) {
+        return Plan::Failed(Sense::INVALID_FIELD);
+    }
     let code = byte(block, 0);
     match code {
         0x00 => Plan::Nothing,
