@@ -218,6 +218,36 @@ static void broken_write(void)
     CHECK(memcmp(bench.medium, before.medium, MEDIUM) == 0);
 }
 
+/* Of a known command's last byte, its control byte, bits 0 to 2 fail it with 05/24/00 and the others are ignored. */
+static void control_byte(void)
+{
+    static const char *const six[] = {TEST_UNIT_READY, REQUEST_SENSE, INQUIRY, MODE_SENSE, ALLOW_REMOVAL};
+    static const char *const ten[] = {READ_CAPACITY, READ_TWO_FROM_ONE, WRITE_TWO_FROM_ONE, VERIFY_TWO_FROM_ONE};
+    bench bench, before;
+    char block[10];
+
+    for (int at = 0; at < 9 * 8; at++) {
+        const int code = at / 8, bit = at % 8;
+
+        memcpy(block, code < 5 ? six[code] : ten[code - 5], sizeof block);
+        block[code < 5 ? 5 : 9] = (char)(1 << bit);
+        configure(&bench);
+        before = bench;
+        command(&bench, 1024, 0x00, block);
+        EQUAL(bench.record.stage == COLLECTOR_STAGE_FAILED, bit < 3);
+        EQUAL(bench.record.sense_key, bit < 3 ? 0x05 : 0x00);
+        EQUAL(bench.record.sense_asc, bit < 3 ? 0x24 : 0x00);
+        EQUAL(bench.record.sense_ascq, 0x00);
+        if (bit < 3) {
+            expect_command(&bench, 1024, 1024);
+            EQUAL(bench.record.flags, COLLECTOR_FLAG_CONFIGURED | COLLECTOR_FLAG_HALT_OUT);
+            EQUAL(send_packet(&bench, bench.buffer, 64), COLLECTOR_STALL);
+            expect_status(&bench, "\x00\x04\x00\x00", 1);
+        }
+        CHECK(memcmp(bench.medium, before.medium, MEDIUM) == 0);
+    }
+}
+
 int main(void)
 {
     layout();
@@ -227,6 +257,7 @@ int main(void)
     lock();
     write_and_read();
     broken_write();
+    control_byte();
     records_that_do_not_decode();
     records_that_do_not_fit();
     printf("interface: %u checks passed\n", checks);
