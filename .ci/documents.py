@@ -50,7 +50,7 @@ if "--fix" in sys.argv:
     with open("README.md", "w", encoding="utf-8") as f:
         f.write(text[: stands.start()] + table + text[stands.end() :])
     sys.exit(0)
-faults = ["%s names %s, which is not there" % (page, path) for page in ["README.md"] + sorted(glob.glob("docs/*.md")) for path in missing(page)]
+faults = ["%s names %s, which is not there" % (page, path) for page in ["README.md"] + sorted(glob.glob("docs/**/*.md", recursive=True)) for path in missing(page)]
 if stands is None or stands.group() != table:
     faults.append("README.md's table of specification files is not true: python3 .ci/documents.py --fix writes it")
 print("\n".join(faults) if faults else "documents: ok")

@@ -4,7 +4,8 @@
  * The controller's driver calls one function for each thing that happens on the bus, and does on the wire what the
  * answer's number says. All state is in the caller's record, all blocks are in the caller's medium; the library has
  * no variables of its own, allocates nothing, waits for nothing and calls nothing but memcpy and memset.
- * The functions are proved against the specification in crates/machine; "document 01" is its text.
+ * The functions are proved against the specification in crates/machine; "document 01", as the change requests in
+ * docs/requests amend it, is its text.
  *
  * Platform: x86-64, System V calling convention. Link libcapi.a.
  */

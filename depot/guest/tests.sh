@@ -23,6 +23,12 @@ bench_device() {
     check read-past-the-end sense "Logical block address out of range" raw -r 512 -- 28 00 00 00 00 40 00 00 01 00
     check next-command-after-failure block_0 /depot/bench.before
     check verify-at-the-32-bits-end sense "Logical block address out of range" raw -- 2F 00 FF FF FF FF 00 00 01 00
+    check link-bit-refused sense "Invalid field in cdb" raw -- 00 00 00 00 00 01
+    check naca-bit-refused sense "Invalid field in cdb" raw -r 36 -- 12 00 00 00 24 04
+    check link-bit-in-write-refused sense "Invalid field in cdb" raw -s 512 -i /depot/bench.data -- 2A 00 00 00 00 00 00 00 01 01
+    check naca-bit-in-write-refused sense "Invalid field in cdb" raw -s 512 -i /depot/bench.data -- 2A 00 00 00 00 00 00 00 01 04
+    check refused-writes-stored-nothing block_0 /depot/bench.before
+    check other-control-bits-ignored raw -- 00 00 00 00 00 F8
     check short-data-in received 512 /depot/bench.before raw -r 1024 -- 28 00 00 00 00 00 00 00 01 00
     check short-data-out raw -s 1024 -i /depot/bench.data -- 2A 00 00 00 00 00 00 00 01 00
     check short-data-out-stored block_0 /depot/bench.data

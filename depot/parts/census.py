@@ -1,9 +1,11 @@
 """What must have been on the bus, so that a check which passes has met what it is about: counted in the log."""
 from . import log
-from .decode import is_csw
+from .decode import is_cbw, is_csw
+from .rules import control_byte
 
 # The least that the guest's tests provoke, and what the probe adds, which runs under xhci.
-LEAST = {"devices": 5, "bus resets": 10, "failed": 8, "phase errors": 2, "stalls": 20}
+# "control bytes" are wrappers whose control byte is not 0: Linux handed the bits on as sg_raw was given them.
+LEAST = {"devices": 5, "bus resets": 10, "failed": 12, "phase errors": 2, "stalls": 23, "control bytes": 5}
 LEAST_WITH_PROBE = {"phase errors": 3, "naks": 3, "taken back": 2, "mass storage resets": 4}
 
 
@@ -18,6 +20,7 @@ def count(entries):
         seen["mass storage resets"] += entry.kind == 2 and entry.body[:2] == b"\x21\xFF"
         seen["stalls"] += entry.word == "stall"
         seen["naks"] += entry.word == "nak"
+        seen["control bytes"] += entry.kind == 3 and is_cbw(entry.body) and control_byte(entry.body[15:]) != 0
         if entry.kind == 4 and is_csw(entry.data):
             seen["failed"] += entry.data[12] == 1
             seen["phase errors"] += entry.data[12] == 2

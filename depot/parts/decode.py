@@ -2,6 +2,7 @@
 import struct
 
 from . import log
+from .rules import control_byte
 
 REQUESTS = {
     (0x00, 0x05): "Set Address", (0x00, 0x09): "Set Configuration", (0x80, 0x08): "Get Configuration",
@@ -34,8 +35,9 @@ def command(block):
     name = COMMANDS.get(block[0], "code %02X" % block[0])
     if block[0] in (0x28, 0x2A, 0x2F):
         first, count = struct.unpack_from(">IxH", block, 2)
-        return "%s block %d count %d" % (name, first, count)
-    return name
+        name = "%s block %d count %d" % (name, first, count)
+    control = control_byte(block)
+    return name + (", control byte %02X" % control if control else "")
 
 
 def is_cbw(packet):

@@ -1,4 +1,5 @@
-"""Document 01 once more, in Python and from the paper alone: what a collector answers to each event, and what its medium then is.
+"""Document 01, with document 02's landed requests (A12), once more, in Python and from the papers alone: what a collector answers to
+each event, and what its medium then is.
 
 A run's log is held to it event by event, so that what the guest does not notice (a residue, a halt, an answer to a request
 that Linux ignores) is looked at too. Only what a bus can bring is here: the refusals 10 to 17 are not.
@@ -11,6 +12,13 @@ BLOCK, PACKET = 512, 64
 NO_SENSE, INVALID_CODE, OUT_OF_RANGE, INVALID_FIELD, PHASE_SENSE = (0, 0, 0), (5, 0x20, 0), (5, 0x21, 0), (5, 0x24, 0), (0x0B, 0x4B, 0)
 PASSED, FAILED, PHASE_ERROR = 0, 1, 2
 BLOCK_LENGTHS = {0x00: 6, 0x03: 6, 0x12: 6, 0x1A: 6, 0x1E: 6, 0x25: 10, 0x28: 10, 0x2A: 10, 0x2F: 10}
+REFUSED_CONTROL_BITS = 0x07  # document 02, A12: bits 0 (LINK), 1 and 2 (NACA)
+
+
+def control_byte(block):
+    """The last byte of a known command, by its code's own length; 0 for an unknown code, which has none."""
+    length = BLOCK_LENGTHS.get(block[0])
+    return block[length - 1] if length else 0
 
 
 class Collector:
@@ -173,6 +181,8 @@ class Collector:
         address, count = struct.unpack_from(">IxH", block, 2)
         given = lambda good, data: (NO_SENSE, *data) if good else (INVALID_FIELD, *none)
         sent = lambda reply: ("in", len(reply), reply) if reply else none
+        if control_byte(block) & REFUSED_CONTROL_BITS:
+            return INVALID_FIELD, *none
         match code:
             case 0x00:
                 return given(True, none)

@@ -1,8 +1,9 @@
 //! The ordinary device: the collector's drive (docs: document 01) written as plain Rust firmware, and the C
 //! interface of the proved device, so that the two can be compared and measured.
 //!
-//! It was written from document 01 alone, without the proved device's code, so that a misreading by one of the two
-//! shows as a difference. "§" in the comments names a heading of document 01.
+//! It was written from document 01 and document 02's landed requests alone, without the proved device's code, so that
+//! a misreading by one of the two shows as a difference. "§" in the comments names a heading of document 01; a request
+//! of document 02 is named as such.
 
 mod bulk;
 pub mod capi;

@@ -1,4 +1,4 @@
-//! SCSI: the commands of the one logical unit, their sense and their replies (§ Commands).
+//! SCSI: the commands of the one logical unit, their sense and their replies (§ Commands; document 02, A12).
 
 use crate::device::BLOCK;
 
@@ -109,21 +109,39 @@ impl Data {
     }
 }
 
+/// The control byte's bits that no command may have set: LINK (0), the obsolete FLAG (1) and NACA (2)
+/// (document 02, A12).
+pub const REFUSED_CONTROL_BITS: u8 = 0x07;
+
 /// The least command block length of an operation code; an unknown one needs its code alone.
 pub fn block_length(operation: u8) -> u8 {
+    known_length(operation).unwrap_or(1)
+}
+
+/// The command block length of a code of the table.
+fn known_length(operation: u8) -> Option<u8> {
     match operation {
         code::TEST_UNIT_READY
         | code::REQUEST_SENSE
         | code::INQUIRY
         | code::MODE_SENSE
-        | code::PREVENT_ALLOW => 6,
-        code::READ_CAPACITY | code::READ | code::WRITE | code::VERIFY => 10,
-        _ => 1,
+        | code::PREVENT_ALLOW => Some(6),
+        code::READ_CAPACITY | code::READ | code::WRITE | code::VERIFY => Some(10),
+        _ => None,
     }
 }
 
-/// Checks a command block: code, fields, range, in that order.
+/// Where the control byte stands: last in the code's own length, however long the wrapper says that the block is
+/// (document 02, A12). An unknown code has none.
+pub fn control_place(operation: u8) -> Option<usize> {
+    known_length(operation).map(|length| usize::from(length) - 1)
+}
+
+/// Checks a command block: code, fields, range, in that order. The control byte is a field of every command.
 pub fn decide(block: &[u8; 16], found: Sense, blocks: u32) -> Result<Data, Sense> {
+    if let Some(place) = control_place(block[0]) {
+        field(block[place] & REFUSED_CONTROL_BITS == 0)?;
+    }
     match block[0] {
         code::TEST_UNIT_READY => Ok(Data::None),
         code::REQUEST_SENSE => {

@@ -84,7 +84,9 @@ pub unsafe extern "C" fn collector_bulk_out(
     packet_len: usize,
 ) -> CAnswer {
     let (medium, packet) = (from_raw_parts_mut(medium, medium_len), from_raw_parts(packet, packet_len));
-    let answer = fault::store(medium, |medium| event(record, |device| device.bulk_out(medium, packet)));
+    let answer = fault::take(packet, |packet| {
+        fault::store(medium, |medium| event(record, |device| device.bulk_out(medium, packet)))
+    });
     fault::bulk_out(record, packet);
     answer
 }

@@ -1,12 +1,16 @@
 //! The faults: each a slip that this trade makes, or one that a first firmware has. A fault changes what the ordinary device
-//! did, after it did it; `before` is the record that the event found.
+//! is lent, or what it did, after it did it; `before` is the record that the event found.
 
 use crate::capi::CAnswer;
 use crate::record::{flag, stage, Record};
+use crate::scsi::{control_place, REFUSED_CONTROL_BITS};
 use std::sync::atomic::{AtomicBool, Ordering};
 use std::sync::{Mutex, OnceLock};
 
 const BLOCK: usize = 512;
+/// A command wrapper's length, and where its command block begins.
+const WRAPPER: usize = 31;
+const COMMAND: usize = 15;
 const DATA: u32 = 0;
 const ACK: u32 = 1;
 const NAK: u32 = 2;
@@ -27,6 +31,8 @@ pub enum Fault {
     Sense,
     /// Address plus count summed in 32 bits, in Verify.
     Sum,
+    /// The link and NACA bits of the control byte are ignored (document 02, A12).
+    Control,
     /// No halt after data that is shorter than announced: the status wrapper runs into the data.
     NoHalt,
     /// A bus reset does not end the lock of a phase error.
@@ -49,7 +55,7 @@ pub enum Fault {
     ByteOrder,
 }
 
-const NAMES: [(&str, Fault); 17] = [
+const NAMES: [(&str, Fault); 18] = [
     ("none", Fault::None),
     ("digits", Fault::Digits),
     ("capacity", Fault::Capacity),
@@ -57,6 +63,7 @@ const NAMES: [(&str, Fault); 17] = [
     ("tag", Fault::Tag),
     ("sense", Fault::Sense),
     ("sum", Fault::Sum),
+    ("control", Fault::Control),
     ("no-halt", Fault::NoHalt),
     ("lock-stays", Fault::LockStays),
     ("never-stores", Fault::NeverStores),
@@ -87,6 +94,18 @@ fn chosen() -> Fault {
 pub fn make(medium: &[u8]) {
     if chosen() == Fault::Volatile {
         *OWN.lock().unwrap() = Some(medium.to_vec());
+    }
+}
+
+/// Runs a packet's event on the packet that the fault lets the device see. Data of a wrapper's length is dropped whatever it is.
+pub fn take(packet: &[u8], run: impl FnOnce(&[u8]) -> CAnswer) -> CAnswer {
+    match (chosen(), packet.get(COMMAND).and_then(|code| control_place(*code))) {
+        (Fault::Control, Some(place)) if packet.len() == WRAPPER => {
+            let mut seen = packet.to_vec();
+            seen[COMMAND + place] &= !REFUSED_CONTROL_BITS;
+            run(&seen)
+        }
+        _ => run(packet),
     }
 }
 
@@ -179,7 +198,7 @@ fn without_zeros(buffer: &mut [u8]) -> usize {
 pub fn bulk_out(record: &mut Record, packet: &[u8]) {
     match chosen() {
         Fault::Sense if record.stage == stage::REQUEST_SENSE => record.value = 0,
-        Fault::Sum if record.stage == stage::FAILED && packet.len() == 31 && packet[15] == 0x2F => {
+        Fault::Sum if record.stage == stage::FAILED && packet.len() == WRAPPER && packet[COMMAND] == 0x2F => {
             let address = u32::from_be_bytes(packet[17..21].try_into().unwrap());
             let count = u16::from_be_bytes(packet[22..24].try_into().unwrap());
             if address.wrapping_add(count.into()) <= record.blocks {

@@ -1,6 +1,7 @@
-//! The ordinary device against document 01's worked examples.
+//! The ordinary device against document 01's worked examples and document 02's landed requests.
 
 mod bench;
 mod bench_sheet;
+mod control_byte;
 mod descriptors;
 mod records;

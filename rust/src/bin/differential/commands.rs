@@ -2,7 +2,7 @@
 
 use crate::random::Random;
 use ordinary::device::BLOCK;
-use ordinary::scsi::{self, code, Data, Sense};
+use ordinary::scsi::{self, code, Data, Sense, REFUSED_CONTROL_BITS};
 use ordinary::wrapper::{CBW_SIGNATURE, CBW_SIZE};
 
 const CODES: [u8; 14] = [
@@ -22,10 +22,14 @@ const CODES: [u8; 14] = [
     code::VERIFY,
 ];
 
-/// A packet that is mostly an accepted wrapper.
+/// A packet that is mostly an accepted wrapper. What it announces is what its command would move without the refused
+/// bits of the control byte: a host that sets them expects that they are obeyed.
 pub fn wrapper(random: &mut Random, blocks: u32) -> Vec<u8> {
-    let block = command(random, blocks);
+    let mut block = command(random, blocks);
     let (announced, data_in) = announce(random, &block, blocks);
+    if random.one_in(8) {
+        refuse_control(random, &mut block);
+    }
     let need = scsi::block_length(block[0]);
     let length = match random.below(3) {
         0 => need + random.below(u64::from(17 - need)) as u8,
@@ -44,13 +48,14 @@ pub fn wrapper(random: &mut Random, blocks: u32) -> Vec<u8> {
     packet
 }
 
-/// A command block, mostly one that passes; bytes that the device has to ignore are often set.
-pub fn command(random: &mut Random, blocks: u32) -> [u8; 16] {
+/// A command block, mostly one that passes; bits and bytes that the device has to ignore are often set.
+fn command(random: &mut Random, blocks: u32) -> [u8; 16] {
     let mut block = [0; 16];
     if random.one_in(3) {
         random.fill(&mut block);
     }
     block[0] = if random.one_in(20) { random.number() as u8 } else { random.pick(&CODES) };
+    ignored(random, &mut block);
     match block[0] {
         code::READ | code::WRITE => block[1] &= 0x1F,
         code::VERIFY => block[1] &= 0x1D,
@@ -71,6 +76,25 @@ pub fn command(random: &mut Random, blocks: u32) -> [u8; 16] {
         block[at] ^= 1 << random.pick(&[0, 0, 0, 1, 2, 3, 4, 5, 6, 7]);
     }
     block
+}
+
+/// Often sets the bytes past the code's own length, and bits 3 to 7 of the control byte. Its other bits are cleared.
+fn ignored(random: &mut Random, block: &mut [u8; 16]) {
+    if random.one_in(2) {
+        let need = scsi::block_length(block[0]);
+        random.fill(&mut block[need.into()..]);
+    }
+    if let Some(place) = scsi::control_place(block[0]) {
+        let bits = if random.one_in(2) { random.number() as u8 } else { 0 };
+        block[place] = bits & !REFUSED_CONTROL_BITS;
+    }
+}
+
+/// Sets bits 0 to 2 of the control byte: each alone and together. An unknown code has no control byte.
+fn refuse_control(random: &mut Random, block: &mut [u8; 16]) {
+    if let Some(place) = scsi::control_place(block[0]) {
+        block[place] |= random.pick(&[1, 2, 4, 3, 5, 6, 7]);
+    }
 }
 
 /// Block address and count: mostly within the unit, often at its end or just past it.

@@ -1,5 +1,6 @@
 //! What a run has met, its table, and what is owed of every run.
 
+use crate::control_byte::{self, ControlBytes};
 use crate::event::Event;
 use crate::pair::Played;
 use ordinary::cases::Case;
@@ -12,7 +13,7 @@ const NUMBERS: [usize; 11] = [0, 1, 2, 3, 4, 10, 11, 12, 13, 14, 15];
 /// The answers that each kind can give: all are owed.
 const OWED: [&[usize]; 5] =
     [&[1, 11, 15], &[1, 10], &[0, 1, 3, 10, 12, 14], &[1, 2, 3, 4, 10, 11, 13], &[0, 2, 3, 4, 10, 11, 12]];
-const COMMANDS: [(u8, &str); 9] = [
+pub const COMMANDS: [(u8, &str); 9] = [
     (code::TEST_UNIT_READY, "Test Unit Ready"),
     (code::REQUEST_SENSE, "Request Sense"),
     (code::INQUIRY, "Inquiry"),
@@ -24,12 +25,17 @@ const COMMANDS: [(u8, &str); 9] = [
     (code::VERIFY, "Verify"),
 ];
 const STATUSES: [&str; 3] = ["passed", "failed", "phase error"];
+/// The verdicts at the wrapper, as places in `STATUSES`.
+const PASSED: usize = 0;
+const FAILED: usize = 1;
+const PHASE_ERROR: usize = 2;
 
 #[derive(Default)]
 pub struct Coverage {
     answers: [[u64; 16]; 5],
     /// By command of the table, the last for any other; passed, failed, phase error found at the wrapper.
     commands: [[u64; 3]; COMMANDS.len() + 1],
+    control_bytes: ControlBytes,
     cases: [u64; 14],
     statuses: [u64; 3],
 }
@@ -59,13 +65,23 @@ impl Coverage {
 
     fn note_wrapper(&mut self, before: &Record, packet: &[u8]) {
         let Some(cbw) = Cbw::accept(packet) else { return };
-        let found = Sense::new(before.sense_key, before.sense_asc, before.sense_ascq);
-        let outcome = scsi::decide(cbw.block, found, before.blocks);
-        let case = Case::of(&cbw, &outcome.unwrap_or(Data::None));
-        let index = COMMANDS.iter().position(|(code, _)| *code == cbw.block[0]).unwrap_or(COMMANDS.len());
-        let column = if case.is_phase_error() { 2 } else { usize::from(outcome.is_err()) };
-        self.commands[index][column] += 1;
+        let (case, verdict) = verdict(before, &cbw);
+        let known = COMMANDS.iter().position(|(code, _)| *code == cbw.block[0]);
+        self.commands[known.unwrap_or(COMMANDS.len())][verdict] += 1;
         self.cases[case as usize] += 1;
+        if let Some(index) = known {
+            self.note_control_byte(before, &cbw, index, verdict);
+        }
+    }
+
+    fn note_control_byte(&mut self, before: &Record, cbw: &Cbw, index: usize, outcome: usize) {
+        let cleared = control_byte::cleared(cbw.block);
+        let (_, without) = verdict(before, &Cbw { block: &cleared, ..*cbw });
+        match (outcome, without) {
+            (FAILED, PASSED) => self.control_bytes.note_refused(index, cbw.block),
+            (PASSED, _) => self.control_bytes.note_passed(index, cbw.block),
+            _ => {}
+        }
     }
 
     pub fn print(&self) {
@@ -81,7 +97,8 @@ impl Coverage {
         for ((operation, name), [passed, failed, phase]) in COMMANDS.iter().zip(&self.commands) {
             println!("  {operation:02X} {name:<18}{passed:>9}{failed:>9}{phase:>13}");
         }
-        println!("  {:<30}{:>9}", "any other code", self.commands[COMMANDS.len()][1]);
+        println!("  {:<30}{:>9}", "any other code", self.commands[COMMANDS.len()][FAILED]);
+        self.control_bytes.print();
         println!("\nthe thirteen meetings of host and device");
         for case in Case::ALL {
             println!("  {:>2} {:<18}{:>9}", case as usize, format!("{case:?}"), self.cases[case as usize]);
@@ -102,7 +119,7 @@ impl Coverage {
         let absent = Case::ALL.iter().filter(|case| self.cases[**case as usize] == 0);
         missing.extend(absent.map(|case| format!("case {case:?}")));
         for ((operation, name), counts) in COMMANDS.iter().zip(&self.commands) {
-            if counts[0] == 0 {
+            if counts[PASSED] == 0 {
                 missing.push(format!("{operation:02X} {name} passed"));
             }
         }
@@ -111,6 +128,20 @@ impl Coverage {
                 missing.push(format!("status {name}"));
             }
         }
+        missing.extend(self.control_bytes.missing());
         missing
     }
+}
+
+/// A wrapper's meeting on a device in the state of `before`, and its verdict.
+fn verdict(before: &Record, cbw: &Cbw) -> (Case, usize) {
+    let found = Sense::new(before.sense_key, before.sense_asc, before.sense_ascq);
+    let outcome = scsi::decide(cbw.block, found, before.blocks);
+    let case = Case::of(cbw, &outcome.unwrap_or(Data::None));
+    let verdict = match outcome {
+        _ if case.is_phase_error() => PHASE_ERROR,
+        Ok(_) => PASSED,
+        Err(_) => FAILED,
+    };
+    (case, verdict)
 }

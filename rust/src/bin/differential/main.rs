@@ -4,6 +4,7 @@
 //! `cargo run --release --bin differential -- [--seed N] [--events N] [--seconds N]`
 
 mod commands;
+mod control_byte;
 mod coverage;
 mod damage;
 mod event;
