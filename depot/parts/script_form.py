@@ -5,6 +5,7 @@ import sys
 
 from .decode import is_cbw, is_csw
 from .places import DEPOT
+from .rules import control_byte
 
 sys.path.append(os.path.join(os.path.dirname(DEPOT), "tools"))
 import script
@@ -45,7 +46,9 @@ def cbw(body):
     tag, length, flags, unit, size = struct.unpack_from("<IIBBB", body, 4)
     head = "cbw tag=%d" % tag + (" len=%d" % length if length else "") + (" in" if flags & 0x80 else "") + (" unit=%d" % unit if unit else "")
     name, plain = block(body[15:15 + max(size, 10)])
-    return "%s %s" % (head, name), "%s size=%d %s" % (head, size, plain)
+    control = control_byte(body[15:])
+    named = head + (" control=0x%02X" % control if control else "")
+    return "%s %s" % (named, name), "%s size=%d %s" % (head, size, plain)
 
 
 def event(entry):

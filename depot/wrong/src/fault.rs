@@ -31,7 +31,7 @@ pub enum Fault {
     Sense,
     /// Address plus count summed in 32 bits, in Verify.
     Sum,
-    /// The link and NACA bits of the control byte are ignored (document 02, A12).
+    /// LINK and NACA in the control byte are ignored (document 02, A12).
     Control,
     /// No halt after data that is shorter than announced: the status wrapper runs into the data.
     NoHalt,
