@@ -1,4 +1,4 @@
--- To unfold `scsi-computes` is to unfold what the command reader and the replies are made of, so that closed ones compute.
+-- To unfold `scsi-computes` is to unfold the command reader's and the replies' definitions, so that the plan of a known block computes.
 use Rattle.wire.specs.Choice.{if_then_else_, _and_, look}
 use Rattle.wire.specs.Slices.{bytesAt, zeros}
 use Rattle.wire.specs.Numbers.{low, value}

@@ -1,5 +1,5 @@
--- What a plan goes by and what it never passes: the block's first ten bytes; the unit's blocks and the reply's length. And the one of a block of
--- zeros. Assumes nothing.
+-- What a plan goes by and what it never passes: the block's first ten bytes; the unit's blocks and the reply's length. And the plan of a
+-- block of zeros. Assumes nothing.
 use Prim.Native.Nat.{ℕ, _+_, _≤_, _<_}
 use mathlib.Core.Path.{_≡_, refl, sym, ap, _∙_}
 use mathlib.Core.List.{List}
@@ -74,6 +74,7 @@ plan-fits b blocks =
 
 -- ---- a plan goes by the block's first ten bytes
 
+-- `planOf` of a given command
 abbrev checked : Command → ℕ → List ℕ → Plan
 checked c n b = if c .control b then planBy c n b else Failed invalidField
 

@@ -1,5 +1,5 @@
 //! The faults: each a slip that this trade makes, or one that a first firmware has. A fault changes what the ordinary device
-//! is lent, or what it did, after it did it; `before` is the record that the event found.
+//! is lent before the event, or what it did after it; `before` is the record that the event found.
 
 use crate::capi::CAnswer;
 use crate::record::{flag, stage, Record};

@@ -1,4 +1,4 @@
--- `is_control_clear` meets its contract: the rule of each row is one of the row's length. Assumes nothing.
+-- `is_control_clear` meets its contract: where a command's control byte stands goes by its length alone. Assumes nothing.
 use Prim.Native.Nat.{ℕ, _-_}
 use mathlib.Core.Path.{_≡_, refl, sym}
 use mathlib.Core.Bool.{Bool, true}
