@@ -248,6 +248,41 @@ static void control_byte(void)
     }
 }
 
+/* Inquiry's allocation length is bytes 3 and 4, big endian; Request Sense's and Mode Sense's is byte 4. Each with all
+ * 65,536 values of the two bytes, 256 bytes announced: a length over the reply's changes nothing. */
+static void allocation_lengths(void)
+{
+    static const struct {
+        const char *block, *reply;
+        uint32_t size, range;
+    } rows[] = {
+        {REQUEST_SENSE, "\x70\0\0\0\0\0\0\x0A\0\0\0\0\0\0\0\0\0\0", 18, 256},
+        {INQUIRY, "\x00\x80\x05\x02\x1F\0\0\0" "COLLECT METER EXPORT    0100", 36, 65536},
+        {MODE_SENSE, "\x03\0\0\0", 4, 256},
+    };
+    bench bench;
+    char block[10];
+
+    configure(&bench);
+    for (uint32_t at = 0; at < 3 * 65536; at++) {
+        const uint32_t code = at / 65536, both = at % 65536, size = rows[code].size;
+        const uint32_t allocated = both % rows[code].range, sent = allocated < size ? allocated : size;
+        const char residue[4] = {(char)((256 - sent) % 256), (char)((256 - sent) / 256), 0, 0};
+
+        memcpy(block, rows[code].block, sizeof block);
+        block[3] = (char)(both / 256);
+        block[4] = (char)(both % 256);
+        command(&bench, 256, 0x80, block);
+        if (sent > 0) {
+            EQUAL(data_in(&bench), sent);
+            CHECK(memcmp(bench.buffer, rows[code].reply, sent) == 0);
+        }
+        EQUAL(ask(&bench), COLLECTOR_STALL);
+        EQUAL(control(&bench, CLEAR_IN), COLLECTOR_ACK);
+        expect_status(&bench, residue, 0);
+    }
+}
+
 int main(void)
 {
     layout();
@@ -258,6 +293,7 @@ int main(void)
     write_and_read();
     broken_write();
     control_byte();
+    allocation_lengths();
     records_that_do_not_decode();
     records_that_do_not_fit();
     printf("interface: %u checks passed\n", checks);

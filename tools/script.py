@@ -46,7 +46,7 @@ def block(words, control):
     forms = {
         "test": lambda: six(0x00, 0, 0, 0, 0),
         "sense": lambda: six(0x03, 0, 0, 0, n[0]),
-        "inquiry": lambda: six(0x12, 0, 0, 0, n[0]),
+        "inquiry": lambda: six(0x12, 0, 0, *divmod(n[0], 256)),
         "modes": lambda: six(0x1A, 0, 0x3F, 0, n[0]),
         "prevent": lambda: six(0x1E, 0, 0, 0, n[0]),
         "capacity": lambda: ten(0x25, 0, 0),

@@ -1,4 +1,4 @@
-//! SCSI: the commands of the one logical unit, their sense and their replies (§ Commands; document 02, A12).
+//! SCSI: the commands of the one logical unit, their sense and their replies (§ Commands; document 02, A1 and A12).
 
 use crate::device::BLOCK;
 
@@ -101,8 +101,10 @@ pub enum Data {
 }
 
 impl Data {
-    fn reply(reply: Reply, allocation: u32) -> Data {
-        match reply.size().min(allocation) {
+    /// What a block's command sends of its reply: at most its allocation length, where the code has one.
+    fn reply(reply: Reply, block: &[u8; 16]) -> Data {
+        let most = allocation_length(block).map_or(u32::MAX, u32::from);
+        match reply.size().min(most) {
             0 => Data::None,
             length => Data::Reply { reply, length },
         }
@@ -137,6 +139,16 @@ pub fn control_place(operation: u8) -> Option<usize> {
     known_length(operation).map(|length| usize::from(length) - 1)
 }
 
+/// The allocation length of the codes that have one: for Inquiry bytes 3 and 4, big endian (document 02, A1), for
+/// Request Sense and Mode Sense byte 4 alone.
+pub fn allocation_length(block: &[u8; 16]) -> Option<u16> {
+    match block[0] {
+        code::INQUIRY => Some(u16::from_be_bytes([block[3], block[4]])),
+        code::REQUEST_SENSE | code::MODE_SENSE => Some(block[4].into()),
+        _ => None,
+    }
+}
+
 /// Checks a command block: code, fields, range, in that order. The control byte is a field of every command.
 pub fn decide(block: &[u8; 16], found: Sense, blocks: u32) -> Result<Data, Sense> {
     if let Some(place) = control_place(block[0]) {
@@ -146,18 +158,18 @@ pub fn decide(block: &[u8; 16], found: Sense, blocks: u32) -> Result<Data, Sense
         code::TEST_UNIT_READY => Ok(Data::None),
         code::REQUEST_SENSE => {
             field(block[1] & 0x01 == 0)?;
-            Ok(Data::reply(Reply::Sense(found), block[4].into()))
+            Ok(Data::reply(Reply::Sense(found), block))
         }
         code::INQUIRY => {
             field(block[1] & 0x01 == 0 && block[2] == 0)?;
-            Ok(Data::reply(Reply::Inquiry, block[4].into()))
+            Ok(Data::reply(Reply::Inquiry, block))
         }
         code::MODE_SENSE => {
             field(block[2] == 0x3F)?;
-            Ok(Data::reply(Reply::ModeSense, block[4].into()))
+            Ok(Data::reply(Reply::ModeSense, block))
         }
         code::PREVENT_ALLOW => field(block[4] & 0x01 == 0).map(|()| Data::None),
-        code::READ_CAPACITY => Ok(Data::reply(Reply::Capacity(blocks), u32::MAX)),
+        code::READ_CAPACITY => Ok(Data::reply(Reply::Capacity(blocks), block)),
         code::READ => {
             field(block[1] & 0xE0 == 0)?;
             Ok(match range(block, blocks)? {

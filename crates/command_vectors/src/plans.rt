@@ -115,8 +115,21 @@ fn control_bytes() {
     block(0x0F00_0000_0007_0000, 0x0007);
 }
 
+// Allocation lengths: Inquiry of 256, of 261 (byte 4 is 5), of 65,535, of 35 and of none; Request Sense and Mode Sense with byte 3 at 1,
+// which is no part of theirs.
+fn allocation_lengths() {
+    block(0x1200_0001_0000_0000, 0x0000);
+    block(0x1200_0001_0500_0000, 0x0000);
+    block(0x1200_00FF_FF00_0000, 0x0000);
+    block(0x1200_0000_2300_0000, 0x0000);
+    block(0x1200_0000_0000_0000, 0x0000);
+    block(0x0300_0001_0400_0000, 0x0000);
+    block(0x1A00_3F01_0300_0000, 0x0000);
+}
+
 pub(crate) fn run() {
     ranges();
     others();
     control_bytes();
+    allocation_lengths();
 }

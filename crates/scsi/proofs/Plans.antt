@@ -26,9 +26,9 @@ PlanFits blocks (Reply k n) = n ≤ replySize k
 PlanFits blocks (Read block count) = block + count ≤ blocks
 PlanFits blocks (Write block count) = block + count ≤ blocks
 
-cut-fits : (blocks : ℕ) (k : ReplyKind) (n : ℕ) (b : List ℕ) → n ≤ replySize k → PlanFits blocks (cut k n b)
+cut-fits : (blocks : ℕ) (k : ReplyKind) (size allocated : ℕ) → size ≤ replySize k → PlanFits blocks (cut k size allocated)
 unfolding cut
-cut-fits blocks k n b h = by-if (PlanFits blocks) (ltb (byteAt b 4) n) _ _ (λ e. let l = ltb-true (byteAt b 4) n e in omega arith) (λ _. h)
+cut-fits blocks k size allocated h = by-if (PlanFits blocks) (ltb allocated size) _ _ (λ e. let l = ltb-true allocated size e in omega arith) (λ _. h)
 
 within-fits : (blocks : ℕ) (b : List ℕ) (p : Plan) → (address b + count b ≤ blocks → PlanFits blocks p) → PlanFits blocks (within blocks b p)
 unfolding within
@@ -43,11 +43,11 @@ every-row code =
     look-all Fitting _ code unknown (
       (λ n b. tt),
       (
-        (λ n b. cut-fits n kind.Sense 18 b (omega arith)),
+        (λ n b. cut-fits n kind.Sense 18 _ (omega arith)),
         (
-          (λ n b. cut-fits n kind.Inquiry 36 b (omega arith)),
+          (λ n b. cut-fits n kind.Inquiry 36 _ (omega arith)),
           (
-            (λ n b. cut-fits n kind.ModeSense 4 b (omega arith)),
+            (λ n b. cut-fits n kind.ModeSense 4 _ (omega arith)),
             (
               (λ n b. tt),
               (

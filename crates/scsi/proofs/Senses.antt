@@ -42,9 +42,9 @@ Fitting c = (blocks : ℕ) (b : List ℕ) → SenseFits (c .has blocks b)
 none : (n : ℕ) (b : List ℕ) → Unit {0}
 none n b = tt
 
-cuts : (k : ReplyKind) (size n : ℕ) (b : List ℕ) → SenseFits (cut k size b)
+cuts : (k : ReplyKind) (size : ℕ) (allocated : List ℕ → ℕ) (n : ℕ) (b : List ℕ) → SenseFits (cut k size (allocated b))
 unfolding cut
-cuts k size n b = by-if SenseFits _ _ _ (λ _. tt) (λ _. tt)
+cuts k size allocated n b = by-if SenseFits _ _ _ (λ _. tt) (λ _. tt)
 
 ranges : (p : List ℕ → Plan) → ((b : List ℕ) → SenseFits (p b)) → (n : ℕ) (b : List ℕ) → SenseFits (within n b (p b))
 unfolding within
@@ -54,7 +54,7 @@ every-row : (code : ℕ) → Fitting (commandOf code)
 unfolding commandOf commands
 every-row code =
     look-all Fitting _ code unknown
-    (none, (cuts _ _, (cuts _ _, (cuts _ _, (none, (none, (ranges _ (λ _. tt), (ranges _ (λ _. tt), (ranges _ (λ _. tt), tt)))))))))
+    (none, (cuts _ _ _, (cuts _ _ _, (cuts _ _ _, (none, (none, (ranges _ (λ _. tt), (ranges _ (λ _. tt), (ranges _ (λ _. tt), tt)))))))))
     (λ n b. invalid-code)
 
 pub sense-fits : (b : List ℕ) (blocks : ℕ) → SenseFits (planOf b blocks)

@@ -1,4 +1,4 @@
--- What the device has for a command (document 01, "Commands"; document 02, A12): one row for each operation code.
+-- What the device has for a command (document 01, "Commands"; document 02, A1 and A12): one row for each operation code.
 use Prim.Native.Nat.{ℕ, _+_, _-_}
 use mathlib.Core.Bool.{Bool, true}
 use mathlib.Core.List.{List, [], _∷_}
@@ -25,9 +25,17 @@ pub record Command : Type 0 where
 abbrev pub known : ℕ → (List ℕ → Bool) → (ℕ → List ℕ → Plan) → Command
 known n rule plan = record { size = n; control = λ b. clear 0 2 (byteAt b (n - 1)); fields = rule; has = plan }
 
--- "send at most byte 4 bytes"
-unfoldable pub cut : ReplyKind → ℕ → List ℕ → Plan
-cut k n b = if ltb (byteAt b 4) n then Reply k (byteAt b 4) else Reply k n
+-- "Codes 03 .. and 1A send at most byte 4 bytes": their allocation length (SPC-3, 4.3.4.6)
+abbrev pub allocation : List ℕ → ℕ
+allocation b = byteAt b 4
+
+-- "SPC-3 puts the allocation length in bytes 3 and 4, big endian": of code 12 only (document 02, A1; SPC-3, 6.4.1)
+abbrev pub inquiryAllocation : List ℕ → ℕ
+inquiryAllocation b = big (bytesAt 2 3 b)
+
+-- A reply of so many bytes, cut to the allocation length.
+unfoldable pub cut : ReplyKind → ℕ → ℕ → Plan
+cut k size allocated = if ltb allocated size then Reply k allocated else Reply k size
 
 -- "Block address in bytes 2 to 5, count in 7 to 8, big endian"
 abbrev pub address : List ℕ → ℕ
@@ -52,13 +60,13 @@ abbrev pub testUnitReady : Command
 testUnitReady = known 6 (λ b. true) (λ n b. Nothing)
 
 abbrev pub requestSense : Command
-requestSense = known 6 (λ b. clear 0 0 (byteAt b 1)) (λ n b. cut kind.Sense 18 b)
+requestSense = known 6 (λ b. clear 0 0 (byteAt b 1)) (λ n b. cut kind.Sense 18 (allocation b))
 
 abbrev pub inquiry : Command
-inquiry = known 6 (λ b. clear 0 0 (byteAt b 1) and eqb (byteAt b 2) 0) (λ n b. cut kind.Inquiry 36 b)
+inquiry = known 6 (λ b. clear 0 0 (byteAt b 1) and eqb (byteAt b 2) 0) (λ n b. cut kind.Inquiry 36 (inquiryAllocation b))
 
 abbrev pub modeSense : Command
-modeSense = known 6 (λ b. eqb (byteAt b 2) 0x3F) (λ n b. cut kind.ModeSense 4 b)
+modeSense = known 6 (λ b. eqb (byteAt b 2) 0x3F) (λ n b. cut kind.ModeSense 4 (allocation b))
 
 abbrev pub preventAllow : Command
 preventAllow = known 6 (λ b. clear 0 0 (byteAt b 4)) (λ n b. Nothing)

@@ -1,6 +1,6 @@
 // The command reader: a command block, read where it stands, and the number of blocks give what the device has for it.
 ghost use mathlib.Core.Path.{_≡_};
-ghost use Rattle.scsi.specs.Command.{blockLength, controlClear, planOf, planBy, cut, rangedOf};
+ghost use Rattle.scsi.specs.Command.{blockLength, controlClear, planOf, planBy, allocation, cut, rangedOf};
 ghost use Rattle.scsi.specs.Command.{requestSense, inquiry, modeSense, preventAllow, read10, write10, verify10};
 use crate::reply::ReplyKind;
 use crate::sense::Sense;
@@ -68,18 +68,22 @@ pub fn plan_of(block: &[u8], blocks: u32) -> Plan
     }
 }
 
-// A reply of at most byte 4 bytes, the allocation length.
-fn reply(kind: ReplyKind, size: u8, block: &[u8]) -> Plan
-    ensures { λ r. ⌜ r ≡ cut kind size (now (block .entry)) ⌝ }
+// A reply of `size` bytes, cut to the allocation length.
+fn cut(kind: ReplyKind, size: u8, allocated: u16) -> Plan
+    ensures { λ r. ⌜ r ≡ cut kind size allocated ⌝ }
 {
-    let allocated = byte(block, 4);
-    if allocated < size {
-        return Plan::Reply {
-            kind,
-            size: allocated,
-        };
+    if allocated < (size as u16) {
+        let sent = allocated as u8;
+        return Plan::Reply { kind, size: sent };
     }
     Plan::Reply { kind, size }
+}
+
+// A reply whose allocation length is byte 4.
+fn reply(kind: ReplyKind, size: u8, block: &[u8]) -> Plan
+    ensures { λ r. ⌜ r ≡ cut kind size (allocation (now (block .entry))) ⌝ }
+{
+    cut(kind, size, byte(block, 4) as u16)
 }
 
 // A command on blocks has what is given, if its flags are clear and its blocks lie in the unit.
@@ -116,7 +120,7 @@ fn inquiry(block: &[u8], blocks: u32) -> Plan
     if byte(block, 2) != 0 {
         return Plan::Failed(Sense::INVALID_FIELD);
     }
-    reply(ReplyKind::Inquiry, 36, block)
+    cut(ReplyKind::Inquiry, 36, be16(block, 3))
 }
 
 fn mode_sense(block: &[u8], blocks: u32) -> Plan

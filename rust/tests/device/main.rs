@@ -4,4 +4,5 @@ mod bench;
 mod bench_sheet;
 mod control_byte;
 mod descriptors;
+mod inquiry_length;
 mod records;

@@ -1,5 +1,6 @@
 //! What a run has met, its table, and what is owed of every run.
 
+use crate::allocation_length::AllocationLengths;
 use crate::control_byte::{self, ControlBytes};
 use crate::event::Event;
 use crate::pair::Played;
@@ -35,6 +36,7 @@ pub struct Coverage {
     answers: [[u64; 16]; 5],
     /// By command of the table, the last for any other; passed, failed, phase error found at the wrapper.
     commands: [[u64; 3]; COMMANDS.len() + 1],
+    allocation_lengths: AllocationLengths,
     control_bytes: ControlBytes,
     cases: [u64; 14],
     statuses: [u64; 3],
@@ -69,6 +71,9 @@ impl Coverage {
         let known = COMMANDS.iter().position(|(code, _)| *code == cbw.block[0]);
         self.commands[known.unwrap_or(COMMANDS.len())][verdict] += 1;
         self.cases[case as usize] += 1;
+        if verdict == PASSED {
+            self.allocation_lengths.note_passed(cbw.block);
+        }
         if let Some(index) = known {
             self.note_control_byte(before, &cbw, index, verdict);
         }
@@ -98,6 +103,7 @@ impl Coverage {
             println!("  {operation:02X} {name:<18}{passed:>9}{failed:>9}{phase:>13}");
         }
         println!("  {:<30}{:>9}", "any other code", self.commands[COMMANDS.len()][FAILED]);
+        self.allocation_lengths.print();
         self.control_bytes.print();
         println!("\nthe thirteen meetings of host and device");
         for case in Case::ALL {
@@ -128,6 +134,7 @@ impl Coverage {
                 missing.push(format!("status {name}"));
             }
         }
+        missing.extend(self.allocation_lengths.missing());
         missing.extend(self.control_bytes.missing());
         missing
     }

@@ -3,6 +3,7 @@
 //!
 //! `cargo run --release --bin differential -- [--seed N] [--events N] [--seconds N]`
 
+mod allocation_length;
 mod commands;
 mod control_byte;
 mod coverage;
