@@ -29,6 +29,11 @@ bench_device() {
     check naca-bit-in-write-refused sense "Invalid field in cdb" raw -s 512 -i /depot/bench.data -- 2A 00 00 00 00 00 00 00 01 04
     check refused-writes-stored-nothing block_0 /depot/bench.before
     check other-control-bits-ignored raw -- 00 00 00 00 00 F8
+    check sg_inq-256 has "Product identification: METER EXPORT" sg_inq --len=256 "/dev/$sg"
+    check inquiry-of-261 received 36 /depot/inquiry raw -r 261 -- 12 00 00 01 05 00
+    check inquiry-of-65535 received 36 /depot/inquiry raw -r 65535 -- 12 00 00 FF FF 00
+    check request-sense-cut-by-byte-4 received 5 /depot/no-sense raw -r 18 -- 03 00 00 01 05 00
+    check mode-sense-cut-by-byte-4 received 2 /depot/mode-sense raw -r 192 -- 1A 00 3F 01 02 00
     check short-data-in received 512 /depot/bench.before raw -r 1024 -- 28 00 00 00 00 00 00 00 01 00
     check short-data-out raw -s 1024 -i /depot/bench.data -- 2A 00 00 00 00 00 00 00 01 00
     check short-data-out-stored block_0 /depot/bench.data

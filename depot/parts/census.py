@@ -4,9 +4,11 @@ from .decode import is_cbw, is_csw
 from .rules import control_byte
 
 # The least that the guest's tests provoke, and what the probe adds, which runs under xhci.
-# "control bytes" are wrappers whose control byte is not 0: Linux handed the bits on as sg_raw was given them.
-LEAST = {"devices": 5, "bus resets": 10, "failed": 12, "phase errors": 2, "stalls": 23, "control bytes": 5}
-LEAST_WITH_PROBE = {"phase errors": 3, "naks": 3, "taken back": 2, "mass storage resets": 4}
+# "control bytes" are wrappers whose control byte is not 0: Linux handed the bits on as sg_raw was given them. In the same way
+# "lengths with byte 3" are wrappers of codes 03, 12 and 1A whose byte 3 is not 0.
+LEAST = {"devices": 5, "bus resets": 10, "failed": 12, "phase errors": 2, "stalls": 28, "control bytes": 5,
+         "lengths with byte 3": 5}
+LEAST_WITH_PROBE = {"phase errors": 3, "lengths with byte 3": 6, "naks": 3, "taken back": 2, "mass storage resets": 4}
 
 
 def count(entries):
@@ -20,7 +22,10 @@ def count(entries):
         seen["mass storage resets"] += entry.kind == 2 and entry.body[:2] == b"\x21\xFF"
         seen["stalls"] += entry.word == "stall"
         seen["naks"] += entry.word == "nak"
-        seen["control bytes"] += entry.kind == 3 and is_cbw(entry.body) and control_byte(entry.body[15:]) != 0
+        if entry.kind == 3 and is_cbw(entry.body):
+            block = entry.body[15:]
+            seen["control bytes"] += control_byte(block) != 0
+            seen["lengths with byte 3"] += block[0] in (0x03, 0x12, 0x1A) and block[3] != 0
         if entry.kind == 4 and is_csw(entry.data):
             seen["failed"] += entry.data[12] == 1
             seen["phase errors"] += entry.data[12] == 2

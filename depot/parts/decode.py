@@ -2,7 +2,7 @@
 import struct
 
 from . import log
-from .rules import control_byte
+from .rules import allocation_length, control_byte
 
 REQUESTS = {
     (0x00, 0x05): "Set Address", (0x00, 0x09): "Set Configuration", (0x80, 0x08): "Get Configuration",
@@ -36,6 +36,8 @@ def command(block):
     if block[0] in (0x28, 0x2A, 0x2F):
         first, count = struct.unpack_from(">IxH", block, 2)
         name = "%s block %d count %d" % (name, first, count)
+    elif block[0] in (0x03, 0x12, 0x1A):
+        name = "%s, allocation length %d" % (name, allocation_length(block))
     control = control_byte(block)
     return name + (", control byte %02X" % control if control else "")
 

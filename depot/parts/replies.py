@@ -4,6 +4,7 @@ import struct
 CONFIGURATION = bytes.fromhex("09 02 20 00 01 01 00 C0 00  09 04 00 00 02 08 06 50 00  07 05 81 02 40 00 00  07 05 02 02 40 00 00")
 LANGUAGES = bytes.fromhex("04 03 09 04")
 INQUIRY = bytes.fromhex("00 80 05 02 1F 00 00 00") + b"COLLECT " + b"METER EXPORT    " + b"0100"
+MODE_SENSE = bytes.fromhex("03 00 00 00")
 
 
 def device_descriptor(vendor, product, release):

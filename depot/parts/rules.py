@@ -1,4 +1,4 @@
-"""Document 01, with document 02's landed requests (A12), once more, in Python and from the papers alone: what a collector answers to
+"""Document 01, with document 02's landed requests (A1, A12), once more, in Python and from the papers alone: what a collector answers to
 each event, and what its medium then is.
 
 A run's log is held to it event by event, so that what the guest does not notice (a residue, a halt, an answer to a request
@@ -6,7 +6,7 @@ that Linux ignores) is looked at too. Only what a bus can bring is here: the ref
 """
 import struct
 
-from .replies import CONFIGURATION, INQUIRY, LANGUAGES, capacity, device_descriptor, fixed_sense, serial, utf16
+from .replies import CONFIGURATION, INQUIRY, LANGUAGES, MODE_SENSE, capacity, device_descriptor, fixed_sense, serial, utf16
 
 BLOCK, PACKET = 512, 64
 NO_SENSE, INVALID_CODE, OUT_OF_RANGE, INVALID_FIELD, PHASE_SENSE = (0, 0, 0), (5, 0x20, 0), (5, 0x21, 0), (5, 0x24, 0), (0x0B, 0x4B, 0)
@@ -19,6 +19,11 @@ def control_byte(block):
     """The last byte of a known command, by its code's own length; 0 for an unknown code, which has none."""
     length = BLOCK_LENGTHS.get(block[0])
     return block[length - 1] if length else 0
+
+
+def allocation_length(block):
+    """The most that codes 03, 12 and 1A may send: byte 4, but for Inquiry bytes 3 and 4, big endian (document 02, A1)."""
+    return block[3] << 8 | block[4] if block[0] == 0x12 else block[4]
 
 
 class Collector:
@@ -181,17 +186,18 @@ class Collector:
         address, count = struct.unpack_from(">IxH", block, 2)
         given = lambda good, data: (NO_SENSE, *data) if good else (INVALID_FIELD, *none)
         sent = lambda reply: ("in", len(reply), reply) if reply else none
+        cut = lambda reply: sent(reply[:allocation_length(block)])
         if control_byte(block) & REFUSED_CONTROL_BITS:
             return INVALID_FIELD, *none
         match code:
             case 0x00:
                 return given(True, none)
             case 0x03:
-                return given(not block[1] & 1, sent(fixed_sense(*self.sense)[:block[4]]))
+                return given(not block[1] & 1, cut(fixed_sense(*self.sense)))
             case 0x12:
-                return given(not block[1] & 1 and block[2] == 0, sent(INQUIRY[:block[4]]))
+                return given(not block[1] & 1 and block[2] == 0, cut(INQUIRY))
             case 0x1A:
-                return given(block[2] == 0x3F, sent(b"\x03\0\0\0"[:block[4]]))
+                return given(block[2] == 0x3F, cut(MODE_SENSE))
             case 0x1E:
                 return given(not block[4] & 1, none)
             case 0x25:

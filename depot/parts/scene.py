@@ -6,6 +6,7 @@ from . import initramfs, packages
 from .machine import Machine, SOCKET, linux
 from .media import changed, media, meter_csv
 from .peer import Peer, Refused
+from .replies import INQUIRY, MODE_SENSE, fixed_sense
 
 SILENCE = 60  # seconds in which a guest that lives says something
 END = "end"
@@ -23,6 +24,7 @@ class Scene:
 
     def prepare(self, controller):
         files = [("meter.csv", self.csv), ("probe", initramfs.read(self.probe)), ("controller", controller.encode())]
+        files += [("inquiry", INQUIRY), ("no-sense", fixed_sense(0, 0, 0)), ("mode-sense", MODE_SENSE)]
         for name, medium in self.media.items():
             files += medium.files(name)
             with open(self.path(name + ".medium"), "wb") as f:

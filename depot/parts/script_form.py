@@ -5,7 +5,7 @@ import sys
 
 from .decode import is_cbw, is_csw
 from .places import DEPOT
-from .rules import control_byte
+from .rules import allocation_length, control_byte
 
 sys.path.append(os.path.join(os.path.dirname(DEPOT), "tools"))
 import script
@@ -37,7 +37,8 @@ def setup(body):
 def block(b):
     first, count = struct.unpack_from(">IxH", b, 2)
     blocks = "%d %d" % (first, count)
-    names = {0x00: "test", 0x03: "sense %d" % b[4], 0x12: "inquiry %d" % b[4], 0x1A: "modes %d" % b[4], 0x1E: "prevent %d" % b[4],
+    most = allocation_length(b)
+    names = {0x00: "test", 0x03: "sense %d" % most, 0x12: "inquiry %d" % most, 0x1A: "modes %d" % most, 0x1E: "prevent %d" % b[4],
              0x25: "capacity", 0x28: "read " + blocks, 0x2A: "write " + blocks, 0x2F: "verify " + blocks}
     return names.get(b[0]), "block " + octets(b)
 

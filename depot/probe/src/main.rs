@@ -79,15 +79,26 @@ impl Probe {
         Ok("nak while data is due, and the data is unharmed".into())
     }
 
-    /// The bench sheet's row: Inquiry, byte 4 = 36, announced 64.
-    fn short_reply(&self) -> Outcome {
-        passes("a wrapper", self.device.bulk_out(&cbw(0x112, 64, true, 0, &[0x12, 0, 0, 0, 36, 0]), None))?;
-        let data = passes("data", self.device.bulk_in(64, None))?;
+    /// An Inquiry with bytes 3 and 4 as given, which announces more than its 36 bytes.
+    fn inquiry(&self, tag: u32, announced: u32, [byte_3, byte_4]: [u8; 2], residue: u32) -> Outcome {
+        let wrapper = cbw(tag, announced, true, 0, &[0x12, 0, 0, byte_3, byte_4, 0]);
+        passes("a wrapper", self.device.bulk_out(&wrapper, None))?;
+        let data = passes("data", self.device.bulk_in(announced, None))?;
         ends_with("the pipe after it", EPIPE, self.device.bulk_in(13, None))?;
         passes("Clear Feature", self.device.clear_halt(0x81))?;
-        equal("status", &passes("status", self.device.bulk_in(13, None))?, &csw(0x112, 28, 0))?;
-        equal("names", &data[8..36.min(data.len())], b"COLLECT METER EXPORT    0100")?;
-        Ok("36 bytes, a stall, status 0, residue 28".into())
+        equal("status", &passes("status", self.device.bulk_in(13, None))?, &csw(tag, residue, 0))?;
+        equal("names", data.get(8..).unwrap_or_default(), b"COLLECT METER EXPORT    0100")?;
+        Ok(format!("36 bytes, a stall, status 0, residue {residue}"))
+    }
+
+    /// The bench sheet's row: Inquiry, byte 4 = 36, announced 64.
+    fn short_reply(&self) -> Outcome {
+        self.inquiry(0x112, 64, [0, 36], 28)
+    }
+
+    /// Document 02, A1: announced 256 with bytes 3 and 4 at 01 00.
+    fn long_inquiry(&self) -> Outcome {
+        self.inquiry(0x113, 256, [0x01, 0x00], 220)
     }
 
     /// Neither pipe moves, Clear Feature or not, until Mass Storage Reset.
@@ -168,11 +179,12 @@ impl Probe {
 fn run(path: &str, before: &str, data: &str) -> Result<()> {
     let probe =
         Probe { device: Device::open(path)?, before: std::fs::read(before)?, data: std::fs::read(data)? };
-    let checks: [(&str, Check); 10] = [
+    let checks: [(&str, Check); 11] = [
         ("early-ask", Probe::early_ask),
         ("waiting-ask", Probe::waiting_ask),
         ("early-wrapper", Probe::early_wrapper),
         ("short-reply", Probe::short_reply),
+        ("long-inquiry", Probe::long_inquiry),
         ("short-wrapper-locks", Probe::short_wrapper),
         ("other-unit-locks", Probe::other_unit),
         ("reset-in-read", Probe::reset_in_read),

@@ -3,7 +3,7 @@
 
 use crate::capi::CAnswer;
 use crate::record::{flag, stage, Record};
-use crate::scsi::{control_place, REFUSED_CONTROL_BITS};
+use crate::scsi::{code, control_place, REFUSED_CONTROL_BITS};
 use std::sync::atomic::{AtomicBool, Ordering};
 use std::sync::{Mutex, OnceLock};
 
@@ -33,6 +33,8 @@ pub enum Fault {
     Sum,
     /// LINK and NACA in the control byte are ignored (document 02, A12).
     Control,
+    /// Inquiry's allocation length is byte 4 alone, as it was before document 02, A1.
+    InquiryLength,
     /// No halt after data that is shorter than announced: the status wrapper runs into the data.
     NoHalt,
     /// A bus reset does not end the lock of a phase error.
@@ -55,7 +57,7 @@ pub enum Fault {
     ByteOrder,
 }
 
-const NAMES: [(&str, Fault); 18] = [
+const NAMES: [(&str, Fault); 19] = [
     ("none", Fault::None),
     ("digits", Fault::Digits),
     ("capacity", Fault::Capacity),
@@ -64,6 +66,7 @@ const NAMES: [(&str, Fault); 18] = [
     ("sense", Fault::Sense),
     ("sum", Fault::Sum),
     ("control", Fault::Control),
+    ("inquiry-length", Fault::InquiryLength),
     ("no-halt", Fault::NoHalt),
     ("lock-stays", Fault::LockStays),
     ("never-stores", Fault::NeverStores),
@@ -99,13 +102,19 @@ pub fn make(medium: &[u8]) {
 
 /// Runs a packet's event on the packet that the fault lets the device see. Data of a wrapper's length is dropped whatever it is.
 pub fn take(packet: &[u8], run: impl FnOnce(&[u8]) -> CAnswer) -> CAnswer {
-    match (chosen(), packet.get(COMMAND).and_then(|code| control_place(*code))) {
-        (Fault::Control, Some(place)) if packet.len() == WRAPPER => {
-            let mut seen = packet.to_vec();
-            seen[COMMAND + place] &= !REFUSED_CONTROL_BITS;
-            run(&seen)
-        }
-        _ => run(packet),
+    let mut seen = packet.to_vec();
+    if seen.len() == WRAPPER {
+        misread(&mut seen[COMMAND..]);
+    }
+    run(&seen)
+}
+
+/// Makes of a command block what a device with the fault takes it for.
+fn misread(block: &mut [u8]) {
+    match (chosen(), control_place(block[0])) {
+        (Fault::Control, Some(place)) => block[place] &= !REFUSED_CONTROL_BITS,
+        (Fault::InquiryLength, _) if block[0] == code::INQUIRY => block[3] = 0,
+        _ => {}
     }
 }
 
