@@ -5,6 +5,7 @@
 #include "bench.h"
 #include "records.h"
 
+#include <inttypes.h>
 #include <stdio.h>
 #include <string.h>
 
@@ -135,6 +136,34 @@ static void control_requests(void)
     EQUAL(number_of(collector_bus_reset(&bench.record)), COLLECTOR_ACK);
     EQUAL(bench.record.flags, 0);
     EQUAL(bench.record.address, 0);
+}
+
+static void expect_serial(uint64_t number)
+{
+    char digits[13];
+    bench bench;
+
+    make(&bench);
+    bench.record.number = number;
+    EQUAL(control(&bench, "\x80\x06\x03\x03\x09\x04\xFF\x00"), COLLECTOR_DATA);
+    snprintf(digits, sizeof digits, "%012" PRIu64, number);
+    EQUAL(bench.buffer[0], 2 + 2 * 12);
+    EQUAL(bench.buffer[1], 0x03);
+    for (int at = 0; at < 12; at++) {
+        EQUAL(bench.buffer[2 + 2 * at], (uint8_t)digits[at]);
+        EQUAL(bench.buffer[3 + 2 * at], 0);
+    }
+    CHECK(filled(bench.buffer + 26, sizeof bench.buffer - 26, FILL));
+}
+
+/* The device makes the twelve digits in six pairs: each pair of digits at each place, zeros and then nines at the others. */
+static void serial_numbers(void)
+{
+    for (uint64_t place = 1; place < COLLECTOR_MAX_NUMBER; place *= 100)
+        for (uint64_t pair = 0; pair < 100; pair++) {
+            expect_serial(pair * place);
+            expect_serial(COLLECTOR_MAX_NUMBER - pair * place);
+        }
 }
 
 /* A broken wrapper locks; Clear Feature does not free the pipes until the command is dropped. */
@@ -289,6 +318,7 @@ int main(void)
     making();
     refusals();
     control_requests();
+    serial_numbers();
     lock();
     write_and_read();
     broken_write();

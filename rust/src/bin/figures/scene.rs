@@ -99,6 +99,12 @@ pub fn scenes() -> Vec<Scene> {
             Input::Control([0x80, 0x06, 0, 1, 0, 0, 18, 0]),
         ),
         scene(
+            "serial",
+            "control, Get Descriptor (serial string)",
+            ready,
+            Input::Control([0x80, 0x06, 3, 3, 0x09, 0x04, 255, 0]),
+        ),
+        scene(
             "get-status",
             "control, Get Status (device)",
             ready,
