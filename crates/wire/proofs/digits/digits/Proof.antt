@@ -1,5 +1,5 @@
 -- `digits` meets its contract. The invariant: the digits that are left to write, an even number of them, then those that stand. Assumes nothing.
-use Prim.Native.Nat.{ℕ, zero, suc, _+_, _*_, _^_, _≤_, _<_, _-_, _/_, _%_}
+use Prim.Native.Nat.{ℕ, zero, suc, _+_, _^_, _≤_, _<_, _-_, _/_, _%_}
 use mathlib.Core.Path.{_≡_, refl, sym, ap, _∙_}
 use mathlib.Core.List.{List, _∷_, _++_, append-nil}
 use native.Mathlib.Omega.{arith}
@@ -79,19 +79,17 @@ step (suc j) x out h k =
     (append-snoc (decimal j (x / 10)) v (drop (suc j) out))
 
 -- a pair is two such steps
-steps : (i x pair tens : ℕ) (out : List ℕ) → 2 ≤ i → i ≤ length out → pair ≡ x % 100 → tens ≡ pair / 10
-    → decimal i x ++ drop i out ≡ decimal (i - 2) (x / 100) ++ drop (i - 2) (set (set out (i - 1) (48 + (pair - 10 * tens))) (i - 2) (48 + tens))
-steps i x pair tens out h k e f =
-    let last : 48 + (pair - 10 * tens) ≡ 48 + x % 10 = omega arith in
-    let next : 48 + tens ≡ 48 + x / 10 % 10 = omega arith in
-    let rest : x / 100 ≡ x / 10 / 10 = omega arith in
+steps : (i x rest ones tens : ℕ) (out : List ℕ) → 2 ≤ i → i ≤ length out → rest ≡ x / 100 → ones ≡ 48 + x % 10 → tens ≡ 48 + x / 10 % 10
+    → decimal i x ++ drop i out ≡ decimal (i - 2) rest ++ drop (i - 2) (set (set out (i - 1) ones) (i - 2) tens)
+steps i x rest ones tens out h k r o t =
+    let again : rest ≡ x / 10 / 10 = omega arith in
     let left : i - 2 ≡ i - 1 - 1 = omega arith in
-    rw (last, next, rest, left) (step i x out (omega arith) k ∙ step (i - 1) (x / 10) _ (omega arith) (simp length-set (omega arith)))
+    rw (again, o, t, left) (step i x out (omega arith) k ∙ step (i - 1) (x / 10) _ (omega arith) (simp length-set (omega arith)))
 
 loop-again : tie.Need-loop-again Inv-loop μ-loop
 loop-again c =
     let l = c .before .before in
-    (omega arith, (omega arith, (omega arith, (simp length-set (omega arith), l .loop .inv .1 .1 .1 .1 ∙ steps _ _ _ _ _ (omega arith) (omega arith) (omega arith) (c .tens-of .ensures)))))
+    (omega arith, (omega arith, (omega arith, (simp length-set (omega arith), l .loop .inv .1 .1 .1 .1 ∙ steps _ _ _ _ _ _ (omega arith) (omega arith) (omega arith) (omega arith) (omega arith)))))
 
 returns : tie.Need-returns Inv-loop μ-loop
 unfolding decimal low
