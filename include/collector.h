@@ -21,8 +21,8 @@ extern "C" {
 
 #define COLLECTOR_PACKET_SIZE 64u                 /* of a bulk packet, at most; of an answer buffer, at least */
 #define COLLECTOR_BLOCK_SIZE 512u
-#define COLLECTOR_MAX_BLOCKS 4096u
-#define COLLECTOR_MAX_MEDIUM_SIZE 2097152u        /* 4,096 blocks */
+#define COLLECTOR_MAX_BLOCKS 1048576u
+#define COLLECTOR_MAX_MEDIUM_SIZE 536870912u      /* 1,048,576 blocks */
 #define COLLECTOR_MAX_NUMBER 999999999999u        /* the largest collector number: twelve digits */
 #define COLLECTOR_SETUP_SIZE 8u
 
@@ -34,7 +34,7 @@ extern "C" {
 #define COLLECTOR_SILENT 4u         /* answer nothing: a bulk event on a device that is not configured */
 /* A number from 10 on is a refusal: the call was at fault, not the host. */
 #define COLLECTOR_BAD_RECORD 10u    /* the record does not fit together */
-#define COLLECTOR_BAD_MEDIUM 11u    /* medium empty, no multiple of 512, over 4,096 blocks, or not the record's size */
+#define COLLECTOR_BAD_MEDIUM 11u    /* medium empty, no multiple of 512, over 1,048,576 blocks, or not the record's size */
 #define COLLECTOR_SHORT_BUFFER 12u  /* answer buffer under 64 bytes */
 #define COLLECTOR_LONG_PACKET 13u   /* bulk-out packet over 64 bytes */
 #define COLLECTOR_BAD_SETUP 14u     /* setup not 8 bytes */

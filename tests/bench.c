@@ -93,15 +93,22 @@ void configure(bench *bench)
     EQUAL(control(bench, SET_CONFIGURATION), COLLECTOR_ACK);
 }
 
-void command(bench *bench, uint32_t announced, uint8_t direction, const char *block)
+void wrapper(uint8_t packet[31], uint32_t announced, uint8_t direction, const char *block)
 {
-    uint8_t packet[31] = "USBC\x01\x02\x03\x04";
-
+    memset(packet, 0, 31);
+    memcpy(packet, "USBC\x01\x02\x03\x04", 8);
     for (int byte = 0; byte < 4; byte++)
         packet[8 + byte] = (uint8_t)(announced >> 8 * byte);
     packet[12] = direction;
     packet[14] = 10;
     memcpy(packet + 15, block, 10);
+}
+
+void command(bench *bench, uint32_t announced, uint8_t direction, const char *block)
+{
+    uint8_t packet[31];
+
+    wrapper(packet, announced, direction, block);
     EQUAL(send_packet(bench, packet, sizeof packet), COLLECTOR_ACK);
 }
 

@@ -43,7 +43,8 @@ uint32_t ask(bench *bench);
 /* Asks for data, which must come; gives back its count. The rest of the buffer must stay. */
 size_t data_in(bench *bench);
 
-/* Sends a wrapper, which must be accepted: tag 04030201 hex, a command block of 10 bytes. */
+/* A wrapper: tag 04030201 hex, a command block of 10 bytes. Sends one, which must be accepted. */
+void wrapper(uint8_t packet[31], uint32_t announced, uint8_t direction, const char *block);
 void command(bench *bench, uint32_t announced, uint8_t direction, const char *block);
 
 /* What the record must hold: of the command in hand; of its stage. */

@@ -3,6 +3,7 @@
  * Exit status 1 at the first failure.
  */
 #include "bench.h"
+#include "medium_size.h"
 #include "records.h"
 
 #include <inttypes.h>
@@ -45,9 +46,7 @@ static void layout(void)
 
 static void making(void)
 {
-    static uint8_t large[COLLECTOR_MAX_MEDIUM_SIZE + COLLECTOR_BLOCK_SIZE];
     static const collector_record zero;
-    static const size_t bad[] = {0, 1, 511, 513, sizeof large - 1, sizeof large};
     static const collector_record fresh = {
         .number = 42, .vendor = 0x1209, .product = 0x0001, .release = 0x0100, .blocks = BLOCKS
     };
@@ -56,20 +55,13 @@ static void making(void)
 
     make(&bench);
     CHECK(same_record(&bench.record, &fresh));
-    for (size_t at = 0; at < sizeof bad / sizeof bad[0]; at++) {
-        memset(&record, FILL, sizeof record);
-        EQUAL(number_of(collector_make(&record, UINT64_MAX, 1, 2, 3, large, bad[at])), COLLECTOR_BAD_MEDIUM);
-        CHECK(same_record(&record, &zero));
-    }
     memset(&record, FILL, sizeof record);
-    EQUAL(number_of(collector_make(&record, COLLECTOR_MAX_NUMBER + 1, 1, 2, 3, large, 512)), COLLECTOR_BAD_NUMBER);
+    EQUAL(number_of(collector_make(&record, COLLECTOR_MAX_NUMBER + 1, 1, 2, 3, bench.medium, MEDIUM)),
+          COLLECTOR_BAD_NUMBER);
     CHECK(same_record(&record, &zero));
     EQUAL(number_of(collector_bus_reset(&record)), COLLECTOR_BAD_RECORD);
-    EQUAL(number_of(collector_make(&record, COLLECTOR_MAX_NUMBER, 1, 2, 3, large, COLLECTOR_MAX_MEDIUM_SIZE)),
-          COLLECTOR_ACK);
+    EQUAL(number_of(collector_make(&record, COLLECTOR_MAX_NUMBER, 1, 2, 3, bench.medium, MEDIUM)), COLLECTOR_ACK);
     EQUAL(record.number, 999999999999);
-    EQUAL(record.blocks, 4096);
-    CHECK(filled(large, sizeof large, 0));
 }
 
 /* Numbers 10 to 14 in their order, and silence after them; nothing changes. */
@@ -316,6 +308,7 @@ int main(void)
 {
     layout();
     making();
+    medium_sizes();
     refusals();
     control_requests();
     serial_numbers();

@@ -5,8 +5,12 @@ use crate::wrapper::Status;
 
 pub const BLOCK: usize = 512;
 pub const PACKET: usize = 64;
-pub const MAX_BLOCKS: u32 = 4096;
+/// The most blocks of a medium (document 02, A5).
+pub const MAX_BLOCKS: u32 = 1_048_576;
 pub const MAX_NUMBER: u64 = 999_999_999_999;
+
+// Places in the medium and bytes still due are kept in 32 bits.
+const _: () = assert!(MAX_BLOCKS as u64 * BLOCK as u64 <= u32::MAX as u64);
 
 /// Document 01's refusals, with their numbers.
 #[derive(Clone, Copy, Debug, PartialEq, Eq)]
@@ -186,6 +190,7 @@ impl Device {
 }
 
 impl Stage {
+    /// `blocks` is within the limit, so that its bytes fit in 32 bits.
     fn fits(&self, blocks: u32, pending: Pending) -> bool {
         match *self {
             Stage::Ready => true,

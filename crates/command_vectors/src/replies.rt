@@ -16,6 +16,6 @@ pub(crate) fn run() {
     );
     line(b"mode sense:", reply_bytes(Reply::ModeSense));
     capacity(b"capacity of 128:", 128);
-    capacity(b"capacity of 4096:", 4096);
+    capacity(b"capacity of 1048576:", 1_048_576);
     capacity(b"capacity of 1:", 1);
 }

@@ -11,6 +11,7 @@ pub mod Lock
 pub mod Demand
 pub mod Reach
 pub mod Halts
+pub mod Largest
 pub mod StepLaws
 pub mod Beside
 pub mod Compute

@@ -12,9 +12,9 @@ use Rattle.machine.specs.declared.record.Stage.the-variants.{Ready, Data
 use Rattle.machine.specs.declared.record.Link.{Link}
 use Rattle.machine.specs.declared.record.State.{State}
 
--- "1 to 4,096 blocks in a lent medium", of 512 bytes each
+-- "1 to 1,048,576 blocks in a lent medium" (document 01, amended by document 02, A5), of 512 bytes each
 abbrev pub mostBlocks : ℕ
-mostBlocks = 4096
+mostBlocks = 1048576
 
 abbrev pub blockSize : ℕ
 blockSize = 512

@@ -12,5 +12,6 @@ pub mod Tally
 pub mod Claim
 pub mod Beside
 pub mod Halts
+pub mod Largest
 pub mod Sheet
 pub mod Witness

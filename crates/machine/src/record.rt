@@ -4,8 +4,8 @@ use scsi::reply::Reply;
 use scsi::sense::Sense;
 use usb::descriptor::Identity;
 
-// The largest medium, in blocks of 512 bytes.
-pub const MOST_BLOCKS: u32 = 4096;
+// The largest medium, in blocks of 512 bytes (document 02, A5). It has 2^29 bytes, so that a place in it is a u32.
+pub const MOST_BLOCKS: u32 = 1_048_576;
 
 // All that belongs to one logical unit.
 pub struct LogicalUnit {

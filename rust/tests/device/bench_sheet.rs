@@ -23,7 +23,7 @@ fn the_number_is_twelve_digits() {
 #[test]
 fn making_refuses_media_first_then_numbers() {
     let identity = |number| Identity { number, vendor: 0, product: 0, release: 0 };
-    let large = vec![0; 4097 * BLOCK];
+    let large = vec![0; 1_048_577 * BLOCK];
     for medium in [&[][..], &[0; 511], &[0; 513], &large] {
         assert_eq!(Device::make(identity(MAX_NUMBER + 1), medium), Err(Refusal::Medium));
     }

@@ -2,7 +2,9 @@
 
 mod bench;
 mod bench_sheet;
+mod block_place;
 mod control_byte;
 mod descriptors;
 mod inquiry_length;
+mod medium_size;
 mod records;

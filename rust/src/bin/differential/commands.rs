@@ -1,5 +1,6 @@
 //! Command wrappers as a host makes them: right ones, unfitting ones and damaged ones.
 
+use crate::own::{LIMIT, SMALL};
 use crate::random::Random;
 use ordinary::device::BLOCK;
 use ordinary::scsi::{self, code, Data, Sense, REFUSED_CONTROL_BITS};
@@ -22,10 +23,15 @@ const CODES: [u8; 14] = [
     code::VERIFY,
 ];
 
+/// More often in a large medium.
+const MEDIUM_CODES: [u8; 4] = [code::READ_CAPACITY, code::READ, code::WRITE, code::VERIFY];
+
 /// A packet that is mostly an accepted wrapper. What it announces is what its command would move without the refused
 /// bits of the control byte: a host that sets them expects that they are obeyed.
-pub fn wrapper(random: &mut Random, blocks: u32) -> Vec<u8> {
-    let mut block = command(random, blocks);
+pub fn wrapper(random: &mut Random, blocks: u32, marked: &[u32]) -> Vec<u8> {
+    // A record that does not fit may tell of any number of blocks.
+    let blocks = blocks.min(LIMIT);
+    let mut block = command(random, blocks, marked);
     let (announced, data_in) = announce(random, &block, blocks);
     if random.one_in(8) {
         refuse_control(random, &mut block);
@@ -49,12 +55,16 @@ pub fn wrapper(random: &mut Random, blocks: u32) -> Vec<u8> {
 }
 
 /// A command block, mostly one that passes; bits and bytes that the device has to ignore are often set.
-fn command(random: &mut Random, blocks: u32) -> [u8; 16] {
+fn command(random: &mut Random, blocks: u32, marked: &[u32]) -> [u8; 16] {
     let mut block = [0; 16];
     if random.one_in(3) {
         random.fill(&mut block);
     }
-    block[0] = if random.one_in(20) { random.number() as u8 } else { random.pick(&CODES) };
+    block[0] = match random.below(20) {
+        0 => random.number() as u8,
+        1..=10 if !marked.is_empty() => random.pick(&MEDIUM_CODES),
+        _ => random.pick(&CODES),
+    };
     ignored(random, &mut block);
     match block[0] {
         code::READ | code::WRITE => block[1] &= 0x1F,
@@ -65,7 +75,7 @@ fn command(random: &mut Random, blocks: u32) -> [u8; 16] {
         _ => block[1] &= 0xFE,
     }
     match block[0] {
-        code::READ | code::WRITE | code::VERIFY => place(random, &mut block, blocks),
+        code::READ | code::WRITE | code::VERIFY => place(random, &mut block, blocks, marked),
         code::INQUIRY => block[3..5].copy_from_slice(&inquiry_length(random).to_be_bytes()),
         code::REQUEST_SENSE | code::MODE_SENSE => {
             block[3] = if random.one_in(2) { random.number() as u8 } else { block[3] };
@@ -117,16 +127,10 @@ fn inquiry_length(random: &mut Random) -> u16 {
     }
 }
 
-/// Block address and count: mostly within the unit, often at its end or just past it.
-fn place(random: &mut Random, block: &mut [u8; 16], blocks: u32) {
-    let count = match random.below(10) {
-        0 => 0,
-        1 => random.number() as u16,
-        2 => blocks as u16 + random.below(2) as u16,
-        3 => 1 + random.below(u64::from(blocks)) as u16,
-        4 | 5 => 2,
-        _ => 1,
-    };
+/// Block address and count: mostly within the unit, often at its end or just past it. In a large one mostly at a
+/// marked block.
+fn place(random: &mut Random, block: &mut [u8; 16], blocks: u32, marked: &[u32]) {
+    let count = count(random, block[0], blocks);
     let last = blocks.saturating_sub(count.into());
     let address = match random.below(12) {
         0 => random.number() as u32,
@@ -134,10 +138,29 @@ fn place(random: &mut Random, block: &mut [u8; 16], blocks: u32) {
         2 => blocks,
         3 => last + 1,
         4 | 5 => last,
+        6..=10 if !marked.is_empty() => random.pick(marked).min(last),
         _ => random.below(u64::from(last) + 1) as u32,
     };
     block[2..6].copy_from_slice(&address.to_be_bytes());
     block[7..9].copy_from_slice(&count.to_be_bytes());
+}
+
+/// A transfer of many blocks would fill the whole trial: in a large unit mostly Verify has a large count.
+fn count(random: &mut Random, operation: u8, blocks: u32) -> u16 {
+    let most = u16::try_from(blocks).unwrap_or(u16::MAX);
+    let any = 1 + random.below(most.into()) as u16;
+    if blocks > SMALL && operation != code::VERIFY {
+        let few = random.pick(&[0, 1, 1, 1, 1, 2, 2, 3]);
+        return if random.one_in(12) { random.pick(&[any, most]) } else { few };
+    }
+    match random.below(10) {
+        0 => 0,
+        1 => random.number() as u16,
+        2 => most.saturating_add(random.below(2) as u16),
+        3 => any,
+        4 | 5 => 2,
+        _ => 1,
+    }
 }
 
 /// The announced length and direction: mostly those of the device's data.

@@ -1,8 +1,10 @@
 //! What a run has met, its table, and what is owed of every run.
 
 use crate::allocation_length::AllocationLengths;
+use crate::block_place::BlockPlaces;
 use crate::control_byte::{self, ControlBytes};
 use crate::event::Event;
+use crate::medium_size::MediumSizes;
 use crate::pair::Played;
 use ordinary::cases::Case;
 use ordinary::record::{stage, Record};
@@ -38,6 +40,8 @@ pub struct Coverage {
     commands: [[u64; 3]; COMMANDS.len() + 1],
     allocation_lengths: AllocationLengths,
     control_bytes: ControlBytes,
+    medium_sizes: MediumSizes,
+    block_places: BlockPlaces,
     cases: [u64; 14],
     statuses: [u64; 3],
 }
@@ -54,6 +58,8 @@ impl Coverage {
         };
         let number = played.answer.number as usize;
         self.answers[kind][number] += 1;
+        self.medium_sizes.note(before, event, played);
+        self.block_places.note(before, event, played);
         match event {
             Event::BulkOut { packet, .. } if number == 1 && before.stage == stage::READY => {
                 self.note_wrapper(before, packet);
@@ -105,6 +111,8 @@ impl Coverage {
         println!("  {:<30}{:>9}", "any other code", self.commands[COMMANDS.len()][FAILED]);
         self.allocation_lengths.print();
         self.control_bytes.print();
+        self.medium_sizes.print();
+        self.block_places.print();
         println!("\nthe thirteen meetings of host and device");
         for case in Case::ALL {
             println!("  {:>2} {:<18}{:>9}", case as usize, format!("{case:?}"), self.cases[case as usize]);
@@ -136,6 +144,8 @@ impl Coverage {
         }
         missing.extend(self.allocation_lengths.missing());
         missing.extend(self.control_bytes.missing());
+        missing.extend(self.medium_sizes.missing());
+        missing.extend(self.block_places.missing());
         missing
     }
 }

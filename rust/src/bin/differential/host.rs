@@ -2,26 +2,28 @@
 
 use crate::commands::wrapper;
 use crate::event::{Buffer, Event, Lent};
+use crate::large_media::LONGEST;
+use crate::own::{Own, LIMIT, SMALL};
 use crate::random::Random;
 use crate::requests::{self, Setup};
-use ordinary::device::{Identity, BLOCK, MAX_BLOCKS, MAX_NUMBER, PACKET};
+use ordinary::device::{Identity, BLOCK, MAX_NUMBER, PACKET};
 use ordinary::record::{stage, Record};
 
-/// The next event for a device in the state of `record` whose own medium has `own` bytes.
-pub fn next(random: &mut Random, record: &Record, own: usize) -> Event {
-    if record.blocks as usize * BLOCK != own && random.one_in(3) {
+/// The next event for a device in the state of `record`.
+pub fn next(random: &mut Random, record: &Record, own: &Own) -> Event {
+    if record.blocks != own.blocks && random.one_in(3) {
         return Event::Make { identity: identity(random), medium: Lent::Own };
     }
     if random.one_in(10) {
         return odd(random, record, own);
     }
     if !record.configured() {
-        return enumerate(random, record);
+        return enumerate(random, record, own);
     }
     if record.locked() {
-        return recover(random, record);
+        return recover(random, record, own);
     }
-    proceed(random, record)
+    proceed(random, record, own)
 }
 
 pub fn control(random: &mut Random, setup: Setup) -> Event {
@@ -36,39 +38,39 @@ pub fn send(packet: Vec<u8>) -> Event {
     Event::BulkOut { medium: Lent::Own, packet }
 }
 
-fn buffer(random: &mut Random) -> Buffer {
+pub fn buffer(random: &mut Random) -> Buffer {
     let length = if random.one_in(4) { PACKET + random.below(70) as usize } else { PACKET };
     Buffer { length, seed: random.number() }
 }
 
 /// A wrapper where one is due, else data.
-pub fn packet(random: &mut Random, record: &Record) -> Vec<u8> {
+pub fn packet(random: &mut Random, record: &Record, marked: &[u32]) -> Vec<u8> {
     if record.stage != stage::DATA_OUT {
-        return wrapper(random, record.blocks);
+        return wrapper(random, record.blocks, marked);
     }
     let length = if random.one_in(60) { random.below(PACKET as u64 + 1) } else { PACKET as u64 };
     random.bytes(length)
 }
 
-fn enumerate(random: &mut Random, record: &Record) -> Event {
+fn enumerate(random: &mut Random, record: &Record, own: &Own) -> Event {
     match random.below(10) {
         0..=3 => control(random, requests::SET_CONFIGURATION),
         4..=7 => {
             let setup = requests::known(random);
             control(random, setup)
         }
-        8 => send(packet(random, record)),
+        8 => send(packet(random, record, &own.marked)),
         _ => ask(random),
     }
 }
 
 /// Out of the lock: mostly Mass Storage Reset; a Clear Feature alone must not do.
-fn recover(random: &mut Random, record: &Record) -> Event {
+fn recover(random: &mut Random, record: &Record, own: &Own) -> Event {
     match random.below(8) {
         0..=2 => control(random, requests::MASS_STORAGE_RESET),
         3 => control(random, requests::CLEAR_IN),
         4 => control(random, requests::CLEAR_OUT),
-        5 => send(packet(random, record)),
+        5 => send(packet(random, record, &own.marked)),
         6 => ask(random),
         _ => {
             let setup = requests::known(random);
@@ -78,18 +80,18 @@ fn recover(random: &mut Random, record: &Record) -> Event {
 }
 
 /// The next step of a command. A stall is mostly met before the halt is cleared.
-fn proceed(random: &mut Random, record: &Record) -> Event {
+fn proceed(random: &mut Random, record: &Record, own: &Own) -> Event {
     let met = !random.one_in(4);
     match record.stage {
         stage::READY | stage::DATA_OUT if record.halt_out() && met => control(random, requests::CLEAR_OUT),
-        stage::READY | stage::DATA_OUT => send(packet(random, record)),
+        stage::READY | stage::DATA_OUT => send(packet(random, record, &own.marked)),
         _ if record.halt_in() && met => control(random, requests::CLEAR_IN),
         _ => ask(random),
     }
 }
 
 /// Something out of turn, or an input that is refused.
-fn odd(random: &mut Random, record: &Record, own: usize) -> Event {
+fn odd(random: &mut Random, record: &Record, own: &Own) -> Event {
     match random.below(20) {
         0 => Event::BusReset,
         1 => making(random, own),
@@ -102,7 +104,7 @@ fn odd(random: &mut Random, record: &Record, own: usize) -> Event {
             control(random, setup)
         }
         10 | 11 => ask(random),
-        12 => send(wrapper(random, record.blocks)),
+        12 => send(wrapper(random, record.blocks, &own.marked)),
         13 => send(random.bytes(64)),
         14 => {
             let length = random.below(65);
@@ -113,7 +115,7 @@ fn odd(random: &mut Random, record: &Record, own: usize) -> Event {
 }
 
 /// An event with one or more inputs that are refused, so that the order of the checks shows.
-fn refused(random: &mut Random, record: &Record, own: usize) -> Event {
+fn refused(random: &mut Random, record: &Record, own: &Own) -> Event {
     let medium = if random.one_in(2) { wrong_medium(random, own) } else { Lent::Own };
     let mut buffer = buffer(random);
     if random.one_in(2) {
@@ -123,7 +125,7 @@ fn refused(random: &mut Random, record: &Record, own: usize) -> Event {
     match random.below(3) {
         0 => Event::BulkIn { medium, buffer },
         1 => {
-            let mut packet = packet(random, record);
+            let mut packet = packet(random, record, &own.marked);
             if random.one_in(2) {
                 packet.resize(PACKET + 1 + random.below(80) as usize, 0x5A);
             }
@@ -139,14 +141,30 @@ fn refused(random: &mut Random, record: &Record, own: usize) -> Event {
     }
 }
 
-fn wrong_medium(random: &mut Random, own: usize) -> Lent {
+/// A medium that is mostly not of the own one's size. The long ones are lent with a large medium only.
+fn wrong_medium(random: &mut Random, own: &Own) -> Lent {
+    let bytes = own.bytes();
     Lent::Other(match random.below(40) {
-        0 => MAX_BLOCKS as usize * BLOCK + BLOCK,
+        0..=23 if own.is_large() => long(random, own.blocks),
+        0 => bytes + SMALL as usize * BLOCK,
         1..=9 => 0,
-        10..=19 => own + random.pick(&[1, 256, 511]),
-        20..=29 => own - random.pick(&[1, 256, 511, 512]),
-        _ => own + BLOCK * (1 + random.below(3) as usize),
+        10..=19 => bytes + random.pick(&[1, 256, 511]),
+        20..=29 => bytes - random.pick(&[1, 256, 511, 512]),
+        _ => bytes + BLOCK * (1 + random.below(3) as usize),
     })
+}
+
+/// Sizes at the limit, over it by one block, and apart from the own one by a power of two of blocks, which a device
+/// with too few bits for a size cannot tell from it.
+fn long(random: &mut Random, blocks: u32) -> usize {
+    let power = 1 << random.pick(&[12, 16, 16, 19]);
+    let others = [blocks + power, blocks.saturating_sub(power), blocks % power];
+    let blocks = match random.below(6) {
+        0 => LIMIT,
+        1 | 2 => LIMIT + 1,
+        _ => random.pick(&others),
+    };
+    LONGEST.min(blocks as usize * BLOCK)
 }
 
 pub fn identity(random: &mut Random) -> Identity {
@@ -164,7 +182,7 @@ pub fn identity(random: &mut Random) -> Identity {
 }
 
 /// A making out of turn: with a good or a bad medium, with a good number or one too large.
-fn making(random: &mut Random, own: usize) -> Event {
+fn making(random: &mut Random, own: &Own) -> Event {
     let mut identity = identity(random);
     if random.one_in(2) {
         let large = random.number() | 1 << 40;

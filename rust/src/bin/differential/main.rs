@@ -1,22 +1,32 @@
 //! The differential test: random events are played on the ordinary and on the proved device, and after each event
-//! the answer, the whole buffer, the whole medium and the whole record must be the same.
+//! the answer, the whole buffer, the whole medium and the whole record must be the same. Of a medium of more than 4,096
+//! blocks the blocks in use must be the same after each event, and all at the end of its trial.
 //!
 //! `cargo run --release --bin differential -- [--seed N] [--events N] [--seconds N]`
 
 mod allocation_length;
+mod block_place;
 mod commands;
+mod compare;
 mod control_byte;
 mod coverage;
 mod damage;
 mod event;
 mod host;
+mod invent;
+mod large_media;
+mod media;
+mod medium_size;
+mod own;
 mod pair;
 mod random;
+mod record_size;
 mod requests;
 mod trial;
 
 use coverage::Coverage;
 use damage::Damage;
+use large_media::LargeMedia;
 use random::Random;
 use std::process::ExitCode;
 use std::time::{Duration, Instant, SystemTime, UNIX_EPOCH};
@@ -52,35 +62,38 @@ struct Run {
     events: u64,
     coverage: Coverage,
     damage: Damage,
+    large: LargeMedia,
 }
 
 impl Run {
     /// Plays one trial; the error tells a difference.
     fn trial(&mut self, random: &mut Random) -> Result<(), String> {
         let mut trial = Trial::new(random);
-        let mut pair = trial.pair();
+        let mut pair = trial.pair(&mut self.large);
         loop {
             let before = pair.record();
             let event = &trial.events[trial.events.len() - 1];
             match pair.play(event) {
                 Ok(played) => self.coverage.note(&before, event, &played),
-                Err(_) => {
-                    let difference = trial.shrink();
-                    trial.print();
-                    return Err(difference);
-                }
+                Err(_) => return Err(trial.report(None)),
             }
             self.events += 1;
             let record = pair.record();
-            if trial.own() <= 8 * 512 && self.damage.wants(&record, self.events, 30_000) {
-                self.damage.every_byte(random, &record, pair.medium())?;
-                self.damage.invented(random, pair.medium())?;
+            if trial.own.blocks <= 8 && self.damage.wants(&record, self.events) {
+                self.damage.small(random, &record, &trial.own, pair.medium())?;
             }
             if trial.events.len() > trial.length {
-                return Ok(());
+                break;
             }
-            trial.events.push(host::next(random, &record, trial.own()));
+            trial.events.push(host::next(random, &record, &trial.own));
         }
+        if let Some(stray) = pair.stray() {
+            return Err(trial.report(Some(stray)));
+        }
+        if trial.own.is_large() && Damage::wants_large(random, self.events) {
+            self.damage.large(random, &trial.own, &mut pair)?;
+        }
+        Ok(())
     }
 
     /// Plays trials until there were enough events.
@@ -100,10 +113,14 @@ impl Run {
         println!("  {:<34}{:>9}", "events on records not decoding", damage.undecoded);
         println!("  {:<34}{:>9}", "events on records not fitting", damage.unfit);
         println!("  {:<34}{:>9}", "events on records that fit", damage.fit);
+        damage.sizes.print();
         println!("\ntime: {:.1} s", started.elapsed().as_secs_f64());
-        match self.coverage.missing() {
-            missing if missing.is_empty() => Ok(()),
-            missing => Err(format!("not met: {}", missing.join(", "))),
+        let mut missing = self.coverage.missing();
+        missing.extend(self.damage.sizes.missing());
+        if missing.is_empty() {
+            Ok(())
+        } else {
+            Err(format!("not met: {}", missing.join(", ")))
         }
     }
 }

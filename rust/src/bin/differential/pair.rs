@@ -1,10 +1,13 @@
 //! The two devices side by side: each event is played on both, and all that it leaves is compared.
 
+use crate::compare::{compare_bytes, compare_records};
 use crate::event::{Event, Lent};
+use crate::large_media::LargeMedia;
+use crate::media::Media;
 use crate::random::Random;
 use ordinary::capi::{self, CAnswer};
 use ordinary::device::{Answer, Device, Refusal};
-use ordinary::record::Record;
+use ordinary::record::{stage, Record};
 
 /// The ordinary device, or a record that does not decode: every event on it answers 10.
 enum Ordinary {
@@ -18,10 +21,10 @@ impl Ordinary {
     }
 }
 
-pub struct Pair {
+pub struct Pair<'a> {
     ordinary: Ordinary,
     proved: Record,
-    media: [Vec<u8>; 2],
+    media: Media<'a>,
     buffers: [Vec<u8>; 2],
 }
 
@@ -29,16 +32,21 @@ pub struct Pair {
 pub struct Played<'a> {
     pub answer: CAnswer,
     pub buffer: &'a [u8],
+    /// The length of the medium that was lent.
+    pub medium: usize,
 }
 
-impl Pair {
-    pub fn new(record: Record, medium: Vec<u8>) -> Pair {
-        Pair {
-            ordinary: Ordinary::new(record),
-            proved: record,
-            media: [medium.clone(), medium],
-            buffers: [vec![], vec![]],
-        }
+impl<'a> Pair<'a> {
+    pub fn small(record: Record, medium: Vec<u8>) -> Pair<'static> {
+        Pair::new(record, Media::small(medium))
+    }
+
+    pub fn large(record: Record, media: &'a mut LargeMedia) -> Pair<'a> {
+        Pair::new(record, Media::Large(media))
+    }
+
+    fn new(record: Record, media: Media<'a>) -> Pair<'a> {
+        Pair { ordinary: Ordinary::new(record), proved: record, media, buffers: [vec![], vec![]] }
     }
 
     /// Sets both devices to a record, which may be anything.
@@ -47,12 +55,21 @@ impl Pair {
         self.proved = record;
     }
 
+    /// Sets both devices' own medium.
     pub fn restore_medium(&mut self, medium: &[u8]) {
-        self.media.iter_mut().for_each(|own| own.copy_from_slice(medium));
+        self.media.lend(Lent::Own).into_iter().for_each(|own| own.copy_from_slice(medium));
     }
 
     pub fn medium(&self) -> &[u8] {
-        &self.media[0]
+        self.media.own()
+    }
+
+    /// A block that differs although no event has shown it. Small media are compared whole after each event.
+    pub fn stray(&self) -> Option<usize> {
+        match &self.media {
+            Media::Small { .. } => None,
+            Media::Large(media) => media.stray(),
+        }
     }
 
     pub fn record(&self) -> Record {
@@ -75,15 +92,10 @@ impl Pair {
                 Random::new(buffer.seed).fill(own);
             }
         }
-        let mut others = match event.medium() {
-            Lent::Own => [vec![], vec![]],
-            Lent::Other(length) => [vec![0xA5; length], vec![0xA5; length]],
-        };
-        let [a, b] = match event.medium() {
-            Lent::Own => &mut self.media,
-            Lent::Other(_) => &mut others,
-        };
+        self.watch_write(event);
+        let [a, b] = self.media.lend(event.medium());
         let [buffer_a, buffer_b] = &mut self.buffers;
+        let medium = a.len();
         let answers = [
             play_ordinary(&mut self.ordinary, event, a, buffer_a),
             play_proved(&mut self.proved, event, b, buffer_b),
@@ -92,9 +104,18 @@ impl Pair {
             return Err(format!("answer: ordinary {:?}, proved {:?}", answers[0], answers[1]));
         }
         compare_bytes("buffer", buffer_a, buffer_b)?;
-        compare_bytes("medium", a, b)?;
+        self.media.compare(event.medium())?;
         compare_records(&self.record(), &self.proved)?;
-        Ok(Played { answer: answers[0], buffer: &self.buffers[0] })
+        Ok(Played { answer: answers[0], buffer: &self.buffers[0], medium })
+    }
+
+    /// The block that an event may write is looked at from then on.
+    fn watch_write(&mut self, event: &Event) {
+        if let (Media::Large(media), Event::BulkOut { .. }, stage::DATA_OUT) =
+            (&mut self.media, event, self.proved.stage)
+        {
+            media.watch_write(self.proved.place as usize);
+        }
     }
 }
 
@@ -127,57 +148,4 @@ fn play_proved(record: &mut Record, event: &Event, medium: &mut [u8], buffer: &m
         Event::BulkOut { packet, .. } => capi::bulk_out(record, medium, packet),
         Event::BulkIn { .. } => capi::bulk_in(record, medium, buffer),
     }
-}
-
-fn compare_bytes(what: &str, ordinary: &[u8], proved: &[u8]) -> Result<(), String> {
-    if ordinary == proved {
-        return Ok(());
-    }
-    let at = ordinary.iter().zip(proved).take_while(|(a, b)| a == b).count();
-    Err(format!("{what}: at byte {at} ordinary {:02X}, proved {:02X}", ordinary[at], proved[at]))
-}
-
-/// Compares all but the reserved bytes.
-fn compare_records(ordinary: &Record, proved: &Record) -> Result<(), String> {
-    if ordinary == proved {
-        return Ok(());
-    }
-    let both = fields(ordinary).into_iter().zip(fields(proved));
-    let differing: Vec<String> = both
-        .filter(|(a, b)| a != b)
-        .map(|((name, a), (_, b))| format!("{name} ordinary {a:X}, proved {b:X}"))
-        .collect();
-    if !differing.is_empty() {
-        return Err(format!("record: {}", differing.join("; ")));
-    }
-    compare_bytes("record's part block", &ordinary.part, &proved.part)
-}
-
-/// A record's fields that are not 0, in hex.
-pub fn show(record: &Record) -> String {
-    let set = fields(record).into_iter().filter(|(_, value)| *value != 0);
-    let text: Vec<String> = set.map(|(name, value)| format!("{name} {value:X}")).collect();
-    let held = record.part.iter().filter(|byte| **byte != 0).count();
-    format!("{}; {held} bytes of the part block not 0", text.join(", "))
-}
-
-fn fields(record: &Record) -> [(&'static str, u64); 15] {
-    let sense = u32::from_be_bytes([0, record.sense_key, record.sense_asc, record.sense_ascq]);
-    [
-        ("number", record.number),
-        ("vendor", record.vendor.into()),
-        ("product", record.product.into()),
-        ("release", record.release.into()),
-        ("residue", record.residue.into()),
-        ("place", record.place.into()),
-        ("left", record.left.into()),
-        ("value", record.value.into()),
-        ("tag", record.tag.into()),
-        ("announced", record.announced.into()),
-        ("blocks", record.blocks.into()),
-        ("stage", record.stage.into()),
-        ("flags", record.flags.into()),
-        ("address", record.address.into()),
-        ("sense", sense.into()),
-    ]
 }

@@ -2,52 +2,71 @@
 
 use crate::event::{Event, Lent};
 use crate::host;
+use crate::large_media::LargeMedia;
+use crate::own::{self, Own, SMALL};
 use crate::pair::Pair;
 use crate::random::Random;
-use ordinary::device::{BLOCK, MAX_BLOCKS};
 use ordinary::record::Record;
 
 pub struct Trial {
     seed: u64,
-    blocks: usize,
+    pub own: Own,
     pub length: usize,
     pub events: Vec<Event>,
+    /// A block that is compared after each event although nothing asks for it.
+    stray: Option<usize>,
 }
 
 impl Trial {
-    /// Mostly small media, for the whole medium is compared after each event; large ones in short trials.
+    /// Mostly the smallest media. Those of up to `SMALL` blocks are compared whole after each event: of the longest
+    /// of these the trials are short.
     pub fn new(random: &mut Random) -> Trial {
         let (blocks, length) = match random.below(100) {
-            0 => (u64::from(MAX_BLOCKS) - if random.one_in(2) { random.below(3967) } else { 0 }, 150),
-            1..=5 => (1 + random.below(128), 400),
-            _ => (1 + random.below(8), 100 + random.below(700)),
+            0 => (SMALL - if random.one_in(4) { random.below(3967) as u32 } else { 0 }, 150),
+            1..=5 => (1 + random.below(128) as u32, 400),
+            6 | 7 => (own::large(random), 1000),
+            _ => (1 + random.below(8) as u32, 100 + random.below(700)),
         };
         Trial {
             seed: random.number(),
-            blocks: blocks as usize,
+            own: Own::new(random, blocks),
             length: length as usize,
             events: vec![Event::Make { identity: host::identity(random), medium: Lent::Own }],
+            stray: None,
         }
     }
 
-    pub fn own(&self) -> usize {
-        self.blocks * BLOCK
+    /// Both devices before the making. A large medium is made ready in `media`.
+    pub fn pair<'a>(&self, media: &'a mut LargeMedia) -> Pair<'a> {
+        if self.own.is_large() {
+            media.begin(&self.own, self.seed);
+            self.stray.iter().for_each(|block| media.watch(*block));
+            Pair::large(Record::ZERO, media)
+        } else {
+            Pair::small(Record::ZERO, Random::new(self.seed).bytes(self.own.bytes() as u64))
+        }
     }
 
-    /// Both devices before the making.
-    pub fn pair(&self) -> Pair {
-        Pair::new(Record::ZERO, Random::new(self.seed).bytes(self.own() as u64))
-    }
-
-    /// The number of events up to the first difference, and the difference.
+    /// The number of events up to the first difference, and the difference. Each time the memory is new, for after a
+    /// difference anything may have been written.
     fn replay(&self, events: &[Event]) -> Option<(usize, String)> {
-        let mut pair = self.pair();
+        let mut media = LargeMedia::default();
+        let mut pair = self.pair(&mut media);
         let mut differs = |event| pair.play(event).err();
         events.iter().enumerate().find_map(|(at, event)| differs(event).map(|text| (at + 1, text)))
     }
 
+    /// The difference, after the fewest events that show it are printed. A stray block that the trial's end has shown
+    /// is looked at from the start, so that the event that wrote it is found.
+    pub fn report(&mut self, stray: Option<usize>) -> String {
+        self.stray = stray;
+        let difference = self.shrink();
+        self.print();
+        difference
+    }
+
     /// Leaves out events for as long as a difference remains; gives back the difference that is left.
-    pub fn shrink(&mut self) -> String {
+    fn shrink(&mut self) -> String {
         let Some((mut end, mut difference)) = self.replay(&self.events) else {
             return "it did not occur again when played again".into();
         };
@@ -72,8 +91,8 @@ impl Trial {
         difference
     }
 
-    pub fn print(&self) {
-        println!("own medium: {} blocks", self.blocks);
+    fn print(&self) {
+        println!("own medium: {} blocks", self.own.blocks);
         for (at, event) in self.events.iter().enumerate() {
             println!("{:>4} {event}", at + 1);
         }

@@ -1,0 +1,114 @@
+//! What a run has met of blocks far out in a medium (document 02, A5): where a device with too few bits for a block
+//! address, for its sum with a count, or for the bytes still due goes wrong.
+
+use crate::event::Event;
+use crate::own::LIMIT;
+use crate::pair::Played;
+use ordinary::device::{BLOCK, PACKET};
+use ordinary::record::{stage, Record};
+use ordinary::scsi::{self, code, Sense};
+use ordinary::wrapper::Cbw;
+
+const OPERATIONS: [(u8, &str); 3] = [(code::READ, "Read"), (code::WRITE, "Write"), (code::VERIFY, "Verify")];
+const READ: usize = 0;
+const WRITE: usize = 1;
+/// In a transfer of that many blocks the bytes still due need more than 24 bits.
+const SERVED: [&str; 4] = ["from 4,096 on", "from 65,536 on", "last of 1,048,576", "32,768 or more due"];
+/// A far address is well past the end, but within if only 20 bits of it are looked at.
+const FAILED: [&str; 3] = ["one past the end", "sum over 32 bits", "far address"];
+
+#[derive(Default)]
+pub struct BlockPlaces {
+    /// By operation and place of the block.
+    served: [[u64; SERVED.len()]; OPERATIONS.len()],
+    /// Range failures in the largest medium.
+    failed: [[u64; FAILED.len()]; OPERATIONS.len()],
+}
+
+impl BlockPlaces {
+    /// Notes an event that was played on a device that was in the state of `before`.
+    pub fn note(&mut self, before: &Record, event: &Event, played: &Played) {
+        let Record { blocks, place, left, .. } = *before;
+        match (event, played.answer.number, before.stage) {
+            (Event::BulkIn { .. }, 0, stage::DATA_IN) => {
+                self.note_served(READ, blocks, place / BLOCK as u32, left / BLOCK as u32);
+            }
+            (Event::BulkOut { packet, .. }, 1, stage::DATA_OUT) if completes(before, packet) => {
+                self.note_served(WRITE, blocks, place, left);
+            }
+            (Event::BulkOut { packet, .. }, 1, stage::READY) => {
+                let cbw = Cbw::accept(packet);
+                cbw.iter().for_each(|cbw| self.note_wrapper(blocks, cbw.block));
+            }
+            _ => {}
+        }
+    }
+
+    fn note_wrapper(&mut self, blocks: u32, block: &[u8; 16]) {
+        let Some(operation) = OPERATIONS.iter().position(|(code, _)| *code == block[0]) else { return };
+        let address = u32::from_be_bytes([block[2], block[3], block[4], block[5]]);
+        let count = u16::from_be_bytes([block[7], block[8]]);
+        let end = u64::from(address) + u64::from(count);
+        match scsi::decide(block, Sense::NONE, blocks) {
+            Ok(_) if block[0] == code::VERIFY && count > 0 => {
+                self.note_served(operation, blocks, end as u32 - 1, count.into());
+            }
+            Err(Sense::OUT_OF_RANGE) if blocks == LIMIT && count > 0 => {
+                let cut = u64::from(address % LIMIT) + u64::from(count);
+                let failed = &mut self.failed[operation];
+                failed[0] += u64::from(end == u64::from(blocks) + 1);
+                failed[1] += u64::from(end > u64::from(u32::MAX));
+                failed[2] += u64::from(address > blocks && cut <= u64::from(blocks));
+            }
+            _ => {}
+        }
+    }
+
+    fn note_served(&mut self, operation: usize, blocks: u32, block: u32, due: u32) {
+        let served = &mut self.served[operation];
+        served[0] += u64::from(block >= 4096);
+        served[1] += u64::from(block >= 65_536);
+        served[2] += u64::from(blocks == LIMIT && block == LIMIT - 1);
+        served[3] += u64::from(due >= 32_768);
+    }
+
+    pub fn print(&self) {
+        print("packets read, blocks stored and verifies passed, by block", &SERVED, &self.served);
+        print("range failures in 1,048,576 blocks", &FAILED, &self.failed);
+    }
+
+    /// What is owed of a run and did not occur.
+    pub fn missing(&self) -> Vec<String> {
+        let mut missing = absent("block", &SERVED, &self.served);
+        missing.extend(absent("range failure", &FAILED, &self.failed));
+        missing
+    }
+}
+
+/// Whether a packet of data completes the part block.
+fn completes(before: &Record, packet: &[u8]) -> bool {
+    packet.len() == PACKET && before.value as usize + PACKET == BLOCK
+}
+
+fn print<const N: usize>(title: &str, columns: &[&str; N], counts: &[[u64; N]; OPERATIONS.len()]) {
+    println!("\n{title}");
+    let header: String = columns.iter().map(|name| format!("{name:>20}")).collect();
+    println!("  {:<12}{header}", "");
+    for ((operation, name), counts) in OPERATIONS.iter().zip(counts) {
+        let row: String = counts.iter().map(|count| format!("{count:>20}")).collect();
+        println!("  {operation:02X} {name:<9}{row}");
+    }
+}
+
+fn absent<const N: usize>(
+    what: &str,
+    columns: &[&str; N],
+    counts: &[[u64; N]; OPERATIONS.len()],
+) -> Vec<String> {
+    let mut missing = vec![];
+    for ((operation, _), counts) in OPERATIONS.iter().zip(counts) {
+        let absent = columns.iter().zip(counts).filter(|(_, count)| **count == 0);
+        missing.extend(absent.map(|(column, _)| format!("{operation:02X} {what}: {column}")));
+    }
+    missing
+}

@@ -1,0 +1,93 @@
+//! Records that were made up, near the bounds of what fits together.
+
+use crate::own::{LIMIT, SMALL};
+use crate::random::Random;
+use ordinary::device::{BLOCK, MAX_NUMBER, PACKET};
+use ordinary::record::{flag, stage, Record};
+
+/// A reply's sense is below this.
+const SENSE_BOUND: u32 = 1 << 24;
+
+/// With the medium's number of blocks or another: a large medium can be lent with these too.
+pub fn invent(random: &mut Random, own: u32) -> Record {
+    let other = random.one_in(if own > SMALL { 2 } else { 6 });
+    let blocks = if other { other_blocks(random, own) } else { own };
+    let mut record = Record { blocks, ..Record::ZERO };
+    record.number = random.pick(&[0, 42, MAX_NUMBER, MAX_NUMBER - 1, MAX_NUMBER]);
+    record.address = random.below(0x80) as u8;
+    record.flags = flags(random);
+    if random.one_in(2) {
+        let [key, asc, ascq] = [(); 3].map(|()| random.number() as u8);
+        (record.sense_key, record.sense_asc, record.sense_ascq) = (key, asc, ascq);
+    }
+    if random.one_in(2) {
+        random.fill(&mut record.part);
+    }
+    record.stage = random.below(stage::COUNT as u64) as u8;
+    if record.stage != stage::READY || random.one_in(8) {
+        set_command(random, &mut record);
+    }
+    record
+}
+
+/// At the limit, over it, or apart from the medium's number by a power of two (document 02, A5).
+fn other_blocks(random: &mut Random, own: u32) -> u32 {
+    match random.below(8) {
+        0..=2 => LIMIT,
+        3..=5 => LIMIT + 1,
+        6 => own + (1 << random.pick(&[12, 16, 19, 20])),
+        _ => random.pick(&[0, LIMIT - 1, LIMIT + 2, 2 * LIMIT, 1 << 23, u32::MAX]),
+    }
+}
+
+fn flags(random: &mut Random) -> u8 {
+    let mut flags = if random.one_in(12) { 0 } else { flag::CONFIGURED };
+    for halt in [flag::HALT_IN, flag::HALT_OUT] {
+        flags |= if random.one_in(4) { halt } else { 0 };
+    }
+    if random.one_in(6) {
+        flags |= flag::LOCKED | flag::HALT_IN | flag::HALT_OUT;
+        flags &= !if random.one_in(6) { flag::HALT_OUT } else { 0 };
+    }
+    flags
+}
+
+fn set_command(random: &mut Random, record: &mut Record) {
+    let size = match record.stage {
+        stage::DATA_OUT => record.blocks,
+        // Over the limit no record fits, whatever its place: the product only must not overflow.
+        stage::DATA_IN => record.blocks.saturating_mul(BLOCK as u32),
+        stage::REQUEST_SENSE => 18,
+        stage::INQUIRY => 36,
+        stage::MODE_SENSE => 4,
+        stage::READ_CAPACITY => 8,
+        _ => 0,
+    };
+    record.tag = random.number() as u32;
+    if size > 0 {
+        let most = if random.one_in(2) { size.min(4 * PACKET as u32) } else { size };
+        let room = random.below(u64::from(most) + 1) as u32;
+        let some = random.below(u64::from(room) + 1) as u32;
+        record.place = size - room;
+        record.left = random.pick(&[0, 1, room, room, room, room.saturating_add(1), some]);
+    }
+    match record.stage {
+        stage::DATA_OUT => record.value = 64 * random.below(9) as u32 + u32::from(random.one_in(12)),
+        stage::READ_CAPACITY => record.value = random.pick(&[0, 1, record.blocks, LIMIT, u32::MAX]),
+        stage::REQUEST_SENSE => {
+            let sense = random.below(u64::from(SENSE_BOUND)) as u32;
+            record.value = random.pick(&[sense, sense, 0, SENSE_BOUND - 1, SENSE_BOUND]);
+        }
+        _ => {}
+    }
+    let scale = if record.stage == stage::DATA_OUT { BLOCK as u32 } else { 1 };
+    let due = record.left.wrapping_mul(scale);
+    record.residue = due.wrapping_add(excess(random));
+    record.announced = record.residue.wrapping_add(excess(random));
+}
+
+/// What a number is over its bound; the largest wraps it to just below.
+fn excess(random: &mut Random) -> u32 {
+    let some = random.below(4096) as u32;
+    random.pick(&[0, 0, 1, 512, u32::MAX, some])
+}
