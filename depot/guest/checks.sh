@@ -10,8 +10,9 @@ attribute() {
     same "$1" "$(cat "$usb/$1")" "$2"
 }
 
+# blocks N [SIZE]: the disk's size, and the kernel's own line about it, in which SIZE is what it makes of N.
 blocks() {
-    printed "[$disk] $1 512-byte logical blocks" && same blocks "$(cat "/sys/block/$disk/size")" "$1"
+    same blocks "$(cat "/sys/block/$disk/size")" "$1" && printed "[$disk] $1 512-byte logical blocks: ${2-}"
 }
 
 # writes MEDIUM: the run's random blocks, each where MEDIUM.list says. Through sg, for the disk's cache would write whole pages.
@@ -35,6 +36,26 @@ reads() {
         return 1
     }
     cmp /tmp/got "/depot/$1" && echo "$(($(stat -c %s /tmp/got) / 512)) blocks equal"
+}
+
+# reads_at PLACES KIND: the blocks that PLACES.list names, through sg, are those of PLACES.KIND. A list's line is one command.
+reads_at() {
+    at=0
+    while read -r block count; do
+        rm -f /tmp/got # sg_dd does not cut an older file
+        sg_dd if="/dev/$sg" of=/tmp/got bs=512 skip="$block" count="$count" 2>/tmp/dd || {
+            tail -n 1 /tmp/dd
+            return 1
+        }
+        dd if="/depot/$1.$2" of=/tmp/expected bs=512 skip=$at count="$count" 2>/tmp/dd
+        cmp /tmp/got /tmp/expected >/tmp/cmp || {
+            byte=$(sed -n 's/.*differ: char \([0-9]*\).*/\1/p' /tmp/cmp)
+            echo "block $((block + (${byte:-1} - 1) / 512)) has other bytes, in a read of $count from $block"
+            return 1
+        }
+        at=$((at + count))
+    done <"/depot/$1.list"
+    echo "$at blocks equal"
 }
 
 # raw OPTIONS.. -- BLOCK..: a command block as it stands; what came in is in /tmp/got.
@@ -71,6 +92,17 @@ received() {
         return 1
     }
     head -c "$n" "$file" | cmp - /tmp/got && echo "$n bytes, equal"
+}
+
+# octets BYTES raw ..: the command passes, and brings exactly these bytes, in hex.
+octets() {
+    expected=$1
+    shift
+    "$@" || {
+        grep . /tmp/raw | tail -n 1
+        return 1
+    }
+    same bytes "$(hexdump -v -e '/1 "%02X "' /tmp/got | sed 's/ $//')" "$expected"
 }
 
 # phase raw ..: the command ends in a transport error; the kernel resets the port and finds the device again.

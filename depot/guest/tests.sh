@@ -67,17 +67,29 @@ transport() {
     unplug
 }
 
-# A file system on the largest medium, kept over an unplugging: a new device over the same medium.
-file_system() {
-    plug large 999999999999 1209 0001 0100 || return
+# The largest medium (document 02, A5). It takes too long to be read whole: its ends are read, the blocks where an address of 12 or
+# 16 bits would begin anew, and others.
+largest() {
+    plug largest 999999999999 1209 0001 0100 || return
     check serial-all-nines printed "SerialNumber: 999999999999"
     check identity printed "New USB device found, idVendor=1209, idProduct=0001, bcdDevice= 1.00"
-    check blocks-4096 blocks 4096
-    check large-reads reads large.before
-    check large-writes writes large
-    check large-reads-back reads large.after
-    ask "save large"
-    mark "4,096 blocks read, some written, all read back"
+    check blocks-1048576 blocks 1048576 "(537 MB/512 MiB)"
+    check largest-sg_readcap has "Last LBA=1048575 (0xfffff), Number of logical blocks=1048576" sg_readcap "/dev/$sg"
+    check largest-read-capacity octets "00 0F FF FF 00 00 02 00" raw -r 8 -- 25 00 00 00 00 00 00 00 00 00
+    places="first 4096 65536 last others"
+    for place in $places; do check "largest-reads-$place" reads_at "largest-$place" before; done
+    check largest-writes writes largest
+    for place in $places; do check "largest-reads-back-$place" reads_at "largest-$place" after; done
+    ask "save largest"
+    check largest-read-past-the-end sense "Logical block address out of range" raw -r 512 -- 28 00 00 10 00 00 00 00 01 00
+    check largest-read-over-the-end sense "Logical block address out of range" raw -r 1024 -- 28 00 00 0F FF FF 00 00 02 00
+    check largest-read-that-wraps sense "Logical block address out of range" raw -r 512 -- 28 00 FF FF FF FF 00 00 01 00
+    check largest-next-command reads_at largest-last after
+    mark "1,048,576 blocks: some read, some written and read back"
+}
+
+# A file system on the largest medium, which is plugged in, kept over an unplugging: a new device over the same medium.
+file_system() {
     check mkfs.vfat mkfs.fat "/dev/$disk"
     check mount mount -t vfat "/dev/$disk" /mnt
     check copy cp /depot/meter.csv /mnt/meter.csv
@@ -94,8 +106,8 @@ file_system() {
     unplug
 }
 
-# small NAME NUMBER BLOCKS: each block written and read.
-small() {
+# whole NAME NUMBER BLOCKS: all blocks read, some written, all read back.
+whole() {
     plug "$1" "$2" 1209 0001 0100 || return
     check "serial-$1" attribute serial "$(printf %012d "$2")"
     check "blocks-$3" blocks "$3"
@@ -103,13 +115,14 @@ small() {
     check "$1-writes" writes "$1"
     check "$1-reads-back" reads "$1.after"
     ask "save $1"
-    mark "$3 block(s) read, written, read back"
+    mark "$3 block(s): all read, some written, all read back"
     unplug
 }
 
 bench_device
 # QEMU's uhci does not take a transfer back that waits, so that it would answer a later ask.
 [ "$(cat /depot/controller)" = xhci ] && transport
-small one 1 1
-small seven 7000000 7
-file_system
+whole one 1 1
+whole seven 7000000 7
+whole large 4096 4096
+largest && file_system

@@ -1,10 +1,10 @@
 """A run's log as a bench recording (document 01, "The bench recording"): what Linux sent to the bench's device."""
 import os
 
-from . import log, script_form
+from . import blocks, log, script_form
 from .rules import Collector
 
-LONGEST, MOST_EVENTS, BLOCKS, NUMBERS = 16384, 1024, 64, (42, 0, 0, 0)
+LONGEST, MOST_EVENTS, MEDIUM, NUMBERS = 16384, 1024, blocks.Blocks(64), (42, 0, 0, 0)
 
 
 def bench_events(path):
@@ -15,8 +15,7 @@ def bench_events(path):
             if taking:
                 events.append(entry)
         elif entry.words[0] == "loaded":
-            with open(os.path.join(os.path.dirname(path), entry.words[1]), "rb") as f:
-                zero = f.read() == bytes(BLOCKS * 512)
+            zero = blocks.read(os.path.join(os.path.dirname(path), entry.words[1])) == MEDIUM
         elif entry.words[0] == "plugged":
             taking = zero and log.identity(entry) == NUMBERS
         elif entry.words[0] == "unplugged" and taking:
@@ -26,7 +25,7 @@ def bench_events(path):
 
 def cut(events):
     """As many events as fit, whole commands only, with the answers of document 01."""
-    device, size, answers, whole = Collector(*NUMBERS, bytes(BLOCKS * 512)), 2, [], 0
+    device, size, answers, whole = Collector(*NUMBERS, MEDIUM), 2, [], 0
     for event in events[:MOST_EVENTS]:
         size += 4 + len(event.body)
         if size > LONGEST:

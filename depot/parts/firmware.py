@@ -4,8 +4,9 @@ import queue
 import random
 import subprocess
 
+from . import blocks
+from .blocks import BLOCK, Blocks
 from .machine import Machine, SOCKET
-from .media import BLOCK, changed
 from .peer import Peer, Refused
 from .places import DEPOT
 
@@ -24,9 +25,8 @@ def boot_block(folder):
 
 
 def play(folder, seed, results, program, wrong):
-    before = boot_block(folder) + random.Random(seed).randbytes((BLOCKS - 1) * BLOCK)
-    with open(os.path.join(folder, "boot.medium"), "wb") as f:
-        f.write(before)
+    before = Blocks(BLOCKS, boot_block(folder) + random.Random(seed).randbytes((BLOCKS - 1) * BLOCK))
+    before.write(os.path.join(folder, "boot.medium"))
     socket = os.path.join(folder, SOCKET)
     if os.path.exists(socket):
         os.unlink(socket)
@@ -38,20 +38,18 @@ def play(folder, seed, results, program, wrong):
         results.mark("computer switched on, the collector plugged in")
         hear(machine, before, results)
         peer.order("save boot.saved")
-        with open(os.path.join(folder, "boot.saved"), "rb") as f:
-            saved = f.read()
-        after = bytearray(before)
-        after[WRITTEN.start * BLOCK:WRITTEN.stop * BLOCK] = before[READ.start * BLOCK:READ.stop * BLOCK]
-        results.check("written-outside", saved == after, "changed: " + " ".join(map(str, changed(before, saved))))
+        saved, after = blocks.read(os.path.join(folder, "boot.saved")), before.copy()
+        after.put(WRITTEN.start, before.get(READ.start, len(READ)))
+        results.check("written-outside", saved == after, "changed: " + " ".join(map(str, before.changed(saved))))
     except queue.Empty:
         results.check("computer-answers", False, "silent for %d seconds" % SILENCE)
     except Refused as fault:
-        results.check("peer", False, str(fault))
+        results.check(fault.check, False, str(fault))
     finally:
         machine.stop()
         if peer:
             complaint = peer.stop()
-            results.check("device-refused-nothing", not complaint, complaint or "no number of 10 and over came back")
+            results.check("device-refused-nothing", not complaint, complaint or "no event brought a number of 10 and over")
         if os.path.exists(socket):
             os.unlink(socket)
 
@@ -61,7 +59,7 @@ def hear(machine, before, results):
     results.check("boots", line == "booted", "the boot block runs" if line == "booted" else repr(line))
     for block in READ:
         line = machine.line(SILENCE)
-        results.check("reads-block-%d" % block, line == before[block * BLOCK:(block + 1) * BLOCK].hex().upper(), "%d digits" % len(line or ""))
+        results.check("reads-block-%d" % block, line == before.get(block, 1).hex().upper(), "%d digits" % len(line or ""))
     line = machine.line(SILENCE)
     results.check("writes", line == "end", "no error")
     results.mark("booted from the collector, blocks read and written")

@@ -1,15 +1,15 @@
 """A run's log held to document 01: every answer, and the medium wherever it was saved."""
 import os
 
-from . import log
+from . import blocks, log
 from .rules import Collector
 
 
 def differences(folder):
     """The events' number, and what is wrong, as lines."""
     count, wrong = 0, []
-    medium, device = b"", None
-    contents = lambda name: open(os.path.join(folder, name), "rb").read()
+    medium, device = None, None
+    contents = lambda name: blocks.read(os.path.join(folder, name))
     for entry in log.read(os.path.join(folder, "events.log")):
         if isinstance(entry, log.Event):
             count += 1
@@ -21,8 +21,7 @@ def differences(folder):
         elif entry.words[0] == "plugged":
             device = Collector(*log.identity(entry), medium)
         elif entry.words[0] == "unplugged":
-            medium = bytes(device.medium)
-            device = None
-        elif entry.words[0] == "saved" and contents(entry.words[1]) != (bytes(device.medium) if device else medium):
+            medium, device = device.medium, None
+        elif entry.words[0] == "saved" and contents(entry.words[1]) != (device.medium if device else medium):
             wrong.append("%.3f s: %s is not the medium that the events make" % (entry.time, entry.words[1]))
     return count, wrong

@@ -1,7 +1,14 @@
 """The media that are plugged in, and what the guest is to write on them: random, so that no device can guess it."""
 import random
 
-BLOCK = 512
+from .blocks import BLOCK, Blocks
+
+LARGEST = 1048576  # document 02, A5
+
+
+def lines(places):
+    """(block, count), a line each, as the guest reads them."""
+    return "".join("%d %d\n" % place for place in places).encode()
 
 
 class Medium:
@@ -10,30 +17,57 @@ class Medium:
     def __init__(self, chance, before, writes, spare=0):
         self.before, self.writes = before, writes
         self.data = chance.randbytes(BLOCK * (sum(count for _, count in writes) + spare))
-        after, at = bytearray(before), 0
+        self.after, at = before.copy(), 0
         for block, count in writes:
-            after[block * BLOCK:(block + count) * BLOCK] = self.data[at:at + count * BLOCK]
+            self.after.put(block, self.data[at:at + count * BLOCK])
             at += count * BLOCK
-        self.after = bytes(after)
 
     def files(self, name):
-        """For the guest."""
-        rows = "".join("%d %d\n" % row for row in self.writes)
-        return [(name + ".before", self.before), (name + ".after", self.after), (name + ".data", self.data), (name + ".list", rows.encode())]
+        """For the guest: what it writes, and the whole medium."""
+        return [(name + ".data", self.data), (name + ".list", lines(self.writes)),
+                (name + ".before", self.before.get(0, self.before.count)), (name + ".after", self.after.get(0, self.after.count))]
+
+
+class SparseMedium(Medium):
+    """A medium that is too large to be read whole: the guest reads its `places` only, lists of (block, count) by name."""
+
+    def __init__(self, chance, count, places, writes):
+        before = Blocks(count)
+        for block, length in sum(places.values(), []):
+            before.put(block, chance.randbytes(length * BLOCK))
+        super().__init__(chance, before, writes)
+        self.places = places
+
+    def files(self, name):
+        out = [(name + ".data", self.data), (name + ".list", lines(self.writes))]
+        for place, parts in self.places.items():
+            contents = lambda medium: b"".join(medium.get(*part) for part in parts)
+            out += [("%s-%s.%s" % (name, place, kind), body)
+                    for kind, body in (("list", lines(parts)), ("before", contents(self.before)), ("after", contents(self.after)))]
+        return out
+
+
+def largest(chance):
+    """Zeros, but for places filled at random: the ends, the blocks where an address of 12 or 16 bits would begin anew, others."""
+    others = [(block, 1) for block in sorted(chance.sample(range(65538, LARGEST - 2), 6))]
+    places = {"first": [(0, 2)], "4096": [(4094, 4)], "65536": [(65534, 4)], "last": [(LARGEST - 2, 2)], "others": others}
+    return SparseMedium(chance, LARGEST, places, [(0, 1), (4095, 2), (65535, 2), *others[::2], (LARGEST - 1, 1)])
 
 
 def media(seed):
     chance = random.Random(seed)
-    filled = lambda blocks: chance.randbytes(blocks * BLOCK)
+    filled = lambda blocks: Blocks(blocks, chance.randbytes(blocks * BLOCK))
     some = lambda blocks, n: sorted(chance.sample(range(1, blocks - 1), n))
     return {
         # The bench's 64 zero blocks. First and last block are always among the written ones.
-        "bench": Medium(chance, bytes(64 * BLOCK), [(0, 1), *((block, 1) for block in some(64, 3)), (63, 1)]),
+        "bench": Medium(chance, Blocks(64), [(0, 1), *((block, 1) for block in some(64, 3)), (63, 1)]),
         # The probe sends more of the data than it may get stored: block 5 only.
         "transport": Medium(chance, filled(64), [(5, 1)], spare=1),
         "one": Medium(chance, filled(1), [(0, 1)]),
         "seven": Medium(chance, filled(7), [(0, 3), (6, 1)]),
         "large": Medium(chance, filled(4096), [(0, 1), *((block, 1) for block in some(4000, 6)), (4032, 64)]),
+        # The last one, so that a seed gives the others the blocks that it always gave them.
+        "largest": largest(chance),
     }
 
 
@@ -45,8 +79,3 @@ def meter_csv(seed):
         reading += chance.uniform(4, 19)
         rows.append("000000000042;day %03d;%.3f" % (day, reading))
     return "\r\n".join(rows + [""]).encode("ascii")
-
-
-def changed(before, after):
-    """The numbers of the blocks that differ."""
-    return [at // BLOCK for at in range(0, len(before), BLOCK) if before[at:at + BLOCK] != after[at:at + BLOCK]]

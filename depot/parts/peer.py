@@ -7,7 +7,11 @@ from .machine import SOCKET
 
 
 class Refused(Exception):
-    """The peer did not do what it was ordered to."""
+    """The peer did not do what it was ordered to. `check` is what fails by it: a device that is not made is no fault of the peer's."""
+
+    def __init__(self, order, why):
+        super().__init__("%s: %s" % (order, why))
+        self.check = "device-made" if "making" in why else "peer"
 
 
 class Peer:
@@ -16,7 +20,7 @@ class Peer:
         end = time.time() + 10
         while not os.path.exists(os.path.join(folder, SOCKET)):
             if time.time() > end:
-                raise Refused("QEMU has opened no socket")
+                raise Refused("connect", "QEMU has opened no socket")
             time.sleep(0.02)
         command = [program, "serve", SOCKET, "events.log", repr(start)]
         self.errors = os.path.join(folder, "peer.log")
@@ -31,7 +35,7 @@ class Peer:
         except BrokenPipeError:
             answer = ""
         if answer != "done":
-            raise Refused("%s: %s" % (text, answer or "the peer has ended"))
+            raise Refused(text, answer.removeprefix("failed ") or "the peer has ended")
 
     def stop(self):
         """Ends the orders; the peer then writes its log out. What it complained of, or nothing."""

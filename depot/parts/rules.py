@@ -1,4 +1,4 @@
-"""Document 01, with document 02's landed requests (A1, A12), once more, in Python and from the papers alone: what a collector answers to
+"""Document 01, with document 02's landed requests (A1, A5, A12), once more, in Python and from the papers alone: what a collector answers to
 each event, and what its medium then is.
 
 A run's log is held to it event by event, so that what the guest does not notice (a residue, a halt, an answer to a request
@@ -6,9 +6,10 @@ that Linux ignores) is looked at too. Only what a bus can bring is here: the ref
 """
 import struct
 
+from .blocks import BLOCK
 from .replies import CONFIGURATION, INQUIRY, LANGUAGES, MODE_SENSE, capacity, device_descriptor, fixed_sense, serial, utf16
 
-BLOCK, PACKET = 512, 64
+PACKET = 64
 NO_SENSE, INVALID_CODE, OUT_OF_RANGE, INVALID_FIELD, PHASE_SENSE = (0, 0, 0), (5, 0x20, 0), (5, 0x21, 0), (5, 0x24, 0), (0x0B, 0x4B, 0)
 PASSED, FAILED, PHASE_ERROR = 0, 1, 2
 BLOCK_LENGTHS = {0x00: 6, 0x03: 6, 0x12: 6, 0x1A: 6, 0x1E: 6, 0x25: 10, 0x28: 10, 0x2A: 10, 0x2F: 10}
@@ -27,10 +28,10 @@ def allocation_length(block):
 
 
 class Collector:
-    """`due` is what the bulk pipes wait for: "wrapper", "out", "in" or "status"."""
+    """`due` is what the bulk pipes wait for: "wrapper", "out", "in" or "status". The medium given (Blocks) is copied."""
 
     def __init__(self, number, vendor, product, release, medium):
-        self.medium, self.blocks = bytearray(medium), len(medium) // BLOCK
+        self.medium = medium.copy()
         self.descriptors = {
             (0x0100, 0): device_descriptor(vendor, product, release), (0x0200, 0): CONFIGURATION, (0x0300, 0): LANGUAGES,
             (0x0301, 0x0409): utf16("COLLECT"), (0x0302, 0x0409): utf16("METER EXPORT"), (0x0303, 0x0409): utf16(serial(number)),
@@ -173,15 +174,15 @@ class Collector:
             return
         self.part += packet
         if len(self.part) == BLOCK:
-            self.medium[self.place:self.place + BLOCK] = self.part
-            self.place, self.left, self.residue, self.part = self.place + BLOCK, self.left - BLOCK, self.residue - BLOCK, b""
+            self.medium.put(self.place, self.part)
+            self.place, self.left, self.residue, self.part = self.place + 1, self.left - BLOCK, self.residue - BLOCK, b""
             if not self.left:
                 self.finish(PASSED)
 
     # Commands
 
     def decide(self, block):
-        """The sense that a command block leaves, the direction of its data ("" for none), their length, and their bytes or place."""
+        """The sense that a command block leaves, the direction of its data ("" for none), their length, and their bytes or first block."""
         code, none = block[0], ("", 0, None)
         address, count = struct.unpack_from(">IxH", block, 2)
         given = lambda good, data: (NO_SENSE, *data) if good else (INVALID_FIELD, *none)
@@ -201,14 +202,13 @@ class Collector:
             case 0x1E:
                 return given(not block[4] & 1, none)
             case 0x25:
-                return given(True, sent(capacity(self.blocks)))
+                return given(True, sent(capacity(self.medium.count)))
             case 0x28 | 0x2A | 0x2F:
                 if block[1] & (0xE2 if code == 0x2F else 0xE0):
                     return INVALID_FIELD, *none
-                if address + count > self.blocks:
+                if address + count > self.medium.count:
                     return OUT_OF_RANGE, *none
-                place, length = address * BLOCK, count * BLOCK
                 if code == 0x2F or not count:
                     return NO_SENSE, *none
-                return NO_SENSE, *(sent(bytes(self.medium[place:place + length])) if code == 0x28 else ("out", length, place))
+                return NO_SENSE, *(sent(self.medium.get(address, count)) if code == 0x28 else ("out", count * BLOCK, address))
         return INVALID_CODE, *none

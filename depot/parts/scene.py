@@ -1,10 +1,11 @@
 """One run: the guest asks, the peer plugs, and the media are looked at from outside."""
 import os
 import queue
+import re
 
-from . import initramfs, packages
+from . import blocks, initramfs, packages
 from .machine import Machine, SOCKET, linux
-from .media import changed, media, meter_csv
+from .media import media, meter_csv
 from .peer import Peer, Refused
 from .replies import INQUIRY, MODE_SENSE, fixed_sense
 
@@ -27,8 +28,7 @@ class Scene:
         files += [("inquiry", INQUIRY), ("no-sense", fixed_sense(0, 0, 0)), ("mode-sense", MODE_SENSE)]
         for name, medium in self.media.items():
             files += medium.files(name)
-            with open(self.path(name + ".medium"), "wb") as f:
-                f.write(medium.before)
+            medium.before.write(self.path(name + ".medium"))
         initramfs.build(self.path("initramfs"), packages.kernel()[1], files)
         if os.path.exists(self.path(SOCKET)):
             os.unlink(self.path(SOCKET))
@@ -52,12 +52,12 @@ class Scene:
         except queue.Empty:
             self.results.check("guest-came-to-its-end", False, "silent for %d seconds" % SILENCE)
         except Refused as fault:
-            self.results.check("peer", False, str(fault))
+            self.results.check(fault.check, False, str(fault))
         finally:
             machine.stop()
             if peer:
                 complaint = peer.stop()
-                self.results.check("device-refused-nothing", not complaint, complaint or "no number of 10 and over came back")
+                self.results.check("device-refused-nothing", not complaint, complaint or "no event brought a number of 10 and over")
             if os.path.exists(self.path(SOCKET)):
                 os.unlink(self.path(SOCKET))
 
@@ -85,15 +85,18 @@ class Scene:
 
     def look_outside(self, name):
         """The peer's medium, which the guest cannot see, is compared with what the run's own numbers make it."""
-        with open(self.path(name + ".saved"), "rb") as f:
-            saved = f.read()
+        saved = blocks.read(self.path(name + ".saved"))
         if name == "file-system":
-            size = len(self.csv).to_bytes(4, "little")
-            entry = saved.find(b"METER   CSV")
-            good = entry > 0 and saved[entry + 28:entry + 32] == size and self.csv in saved
-            self.results.check("csv-outside", good, "directory entry and %d bytes of the CSV on the medium" % len(self.csv))
+            self.look_for_csv(saved)
             return
         medium = self.media[name]
-        blocks = changed(medium.before, saved)
-        detail = "changed: " + (" ".join(map(str, blocks[:8])) + (" and %d more" % (len(blocks) - 8) if len(blocks) > 8 else ""))
+        changed = medium.before.changed(saved)
+        detail = "changed: " + (" ".join(map(str, changed[:8])) + (" and %d more" % (len(changed) - 8) if len(changed) > 8 else ""))
         self.results.check(name + "-outside", saved == medium.after, detail)
+
+    def look_for_csv(self, saved):
+        """A directory entry has the name in its first 11 bytes and the size in its last 4. No block of the CSV is zero: it is in one run."""
+        entry = re.compile(b"METER   CSV.{17}" + re.escape(len(self.csv).to_bytes(4, "little")), re.DOTALL)
+        runs = saved.runs()
+        good = any(entry.search(run) for run in runs) and any(self.csv in run for run in runs)
+        self.results.check("csv-outside", good, "directory entry and %d bytes of the CSV on the medium" % len(self.csv))

@@ -4,7 +4,7 @@ from .svg import FAINT, INK, LINE, Page
 
 SCALE, TOP, ROW = 36, 96, 18  # pixels: a second, the first second's place, a line of text
 BIN = 0.1  # seconds in which packets are counted
-BUS, PLUG, LABELS = 190, 200, 330
+BUS, PLUG, WIDTH, LABELS = 190, 200, 126, 348  # WIDTH: a box that holds the largest number of blocks
 COLORS = ["#4477aa", "#aa7744", "#447755", "#775599", "#996655"]
 LEGEND = "Width of the bars on the left: the root of the number of 64-byte packets, requests and asks in %.1f s (at most %d)."
 
@@ -32,7 +32,7 @@ def counts(entries):
 
 def draw_seconds(page, at, boot, end):
     for second in range(int(end - boot) + 2):
-        page.line(60, at(boot + second), PLUG + 112, at(boot + second), "#eeeeee")
+        page.line(60, at(boot + second), PLUG + WIDTH + 4, at(boot + second), "#eeeeee")
         page.text(54, at(boot + second) + 4, "%d s" % second, FAINT, 11, "end")
 
 
@@ -47,9 +47,9 @@ def draw_packets(page, at, bins):
 
 def draw_plugs(page, at, devices):
     for index, (start, stop, blocks) in enumerate(devices):
-        page.box(PLUG, at(start), 108, at(stop) - at(start) - 2, COLORS[index % len(COLORS)], 4)
+        page.box(PLUG, at(start), WIDTH, at(stop) - at(start) - 2, COLORS[index % len(COLORS)], 4)
         words = "{:,} block{}".format(blocks, "" if blocks == 1 else "s")
-        page.text(PLUG + 54, (at(start) + at(stop)) / 2 + 4, words, "white", 13, "middle")
+        page.text(PLUG + WIDTH / 2, (at(start) + at(stop)) / 2 + 4, words, "white", 13, "middle")
 
 
 def draw_marks(page, at, boot, marks):
@@ -58,7 +58,7 @@ def draw_marks(page, at, boot, marks):
     for time, text in marks:
         y = max(at(time), below)
         below = y + ROW
-        page.line(PLUG + 108, at(time), LABELS - 6, y, LINE)
+        page.line(PLUG + WIDTH, at(time), LABELS - 6, y, LINE)
         page.text(LABELS, y + 4, "%5.2f" % (time - boot), FAINT, 12, mono=True)
         page.text(LABELS + 52, y + 4, text, INK)
 

@@ -2,11 +2,12 @@
 import os
 
 from . import script_form
+from .blocks import Blocks
 from .places import DEPOT
 from .rules import Collector
 
 RECORDINGS = os.path.join(os.path.dirname(DEPOT), "recordings")
-BLOCKS = {"sheet.txt": 128}  # the others: the bench's 64
+COUNTS = {"sheet.txt": 128}  # of blocks; the others: the bench's 64
 RECORDED = {"linux.txt"}  # a run of the depot, whose answers are those of parts/rules.py itself
 
 
@@ -18,7 +19,7 @@ def differences():
             continue
         with open(os.path.join(RECORDINGS, name), encoding="utf-8") as f:
             events, answers = script_form.script.read(f.read())
-        device = Collector(42, 0, 0, 0, bytes(512 * BLOCKS.get(name, 64)))
+        device = Collector(42, 0, 0, 0, Blocks(COUNTS.get(name, 64)))
         given = script_form.answers([device.event(kind, body) for kind, body in events])
         count += len(events)
         wrong += ["%s, event %d: %s, not %s" % (name, i, got, answer) for i, (got, answer) in enumerate(zip(given, answers), 1) if got != answer]

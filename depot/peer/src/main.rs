@@ -12,6 +12,7 @@
 mod bus;
 mod collector;
 mod log;
+mod medium;
 mod play;
 mod redir;
 mod serve;

@@ -3,6 +3,7 @@
 use crate::bus::{Bus, Ended};
 use crate::collector::{Collector, Identity};
 use crate::log::Log;
+use crate::medium;
 use crate::redir::{self, Packet, Status};
 use std::io::{self, BufRead, Write};
 use std::os::unix::net::UnixStream;
@@ -87,7 +88,7 @@ impl Peer {
             ["save", path] => {
                 self.log.note(&format!("saved {path}"));
                 let medium = self.bus.as_ref().map_or(&self.medium[..], Bus::medium);
-                std::fs::write(path, medium).map_err(|fault| fault.to_string())
+                medium::save(path, medium).map_err(|fault| fault.to_string())
             }
             _ => Err("no such order now".into()),
         };
@@ -101,7 +102,7 @@ impl Peer {
         if self.bus.is_some() {
             return Err("a device is plugged in".into());
         }
-        self.medium = std::fs::read(path).map_err(|fault| fault.to_string())?;
+        self.medium = medium::load(path).map_err(|fault| fault.to_string())?;
         self.log.note(&format!("loaded {path}"));
         Ok(())
     }
@@ -125,8 +126,9 @@ impl Peer {
                     .map_err(|fault| fault.to_string())
             }
             Err((refused, medium)) => {
+                let blocks = medium.len() / 512;
                 self.medium = medium;
-                Err(format!("making was refused with {refused}"))
+                Err(format!("making over {blocks} blocks was refused with {refused}"))
             }
         }
     }

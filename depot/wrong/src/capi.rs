@@ -41,8 +41,7 @@ pub unsafe extern "C" fn collector_make(
     medium_len: usize,
 ) -> CAnswer {
     let medium = from_raw_parts(medium, medium_len);
-    let made = Device::make(Identity { number, vendor, product, release }, medium);
-    fault::make(medium);
+    let made = fault::make(medium, Device::make(Identity { number, vendor, product, release }, medium));
     *record = made.as_ref().map_or(Record::ZERO, Device::to_record);
     made.map_or_else(Answer::Refused, |_| Answer::Ack).into()
 }
@@ -84,8 +83,9 @@ pub unsafe extern "C" fn collector_bulk_out(
     packet_len: usize,
 ) -> CAnswer {
     let (medium, packet) = (from_raw_parts_mut(medium, medium_len), from_raw_parts(packet, packet_len));
+    let before = *record;
     let answer = fault::take(packet, |packet| {
-        fault::store(medium, |medium| event(record, |device| device.bulk_out(medium, packet)))
+        fault::store(&before, medium, |medium| event(record, |device| device.bulk_out(medium, packet)))
     });
     fault::bulk_out(record, packet);
     answer

@@ -2,8 +2,10 @@
 //! is lent before the event, or what it did after it; `before` is the record that the event found.
 
 use crate::capi::CAnswer;
+use crate::device::{Device, Refusal};
 use crate::record::{flag, stage, Record};
 use crate::scsi::{code, control_place, REFUSED_CONTROL_BITS};
+use std::ops::Range;
 use std::sync::atomic::{AtomicBool, Ordering};
 use std::sync::{Mutex, OnceLock};
 
@@ -53,11 +55,17 @@ pub enum Fault {
     PartStored,
     /// A stall where nothing is due yet, in place of nak.
     Impatient,
+    /// Making refuses more than 4,096 blocks, as it did before document 02, A5.
+    Limit,
     /// The vendor's and the product's number in the wrong byte order.
     ByteOrder,
+    /// Blocks are read and written at their address modulo 4,096: it is kept in 12 bits.
+    Wrap4096,
+    /// Blocks are read and written at their address modulo 65,536: it is kept in 16 bits.
+    Wrap65536,
 }
 
-const NAMES: [(&str, Fault); 19] = [
+const NAMES: [(&str, Fault); 22] = [
     ("none", Fault::None),
     ("digits", Fault::Digits),
     ("capacity", Fault::Capacity),
@@ -76,7 +84,10 @@ const NAMES: [(&str, Fault); 19] = [
     ("clear-frees", Fault::ClearFrees),
     ("part-stored", Fault::PartStored),
     ("impatient", Fault::Impatient),
+    ("limit", Fault::Limit),
     ("byte-order", Fault::ByteOrder),
+    ("wrap-4096", Fault::Wrap4096),
+    ("wrap-65536", Fault::Wrap65536),
 ];
 
 /// What a record cannot hold: that a reset came while the device was locked, a block that a reset found half full, a medium of its own.
@@ -94,10 +105,13 @@ fn chosen() -> Fault {
     })
 }
 
-pub fn make(medium: &[u8]) {
-    if chosen() == Fault::Volatile {
-        *OWN.lock().unwrap() = Some(medium.to_vec());
+pub fn make(medium: &[u8], made: Result<Device, Refusal>) -> Result<Device, Refusal> {
+    match chosen() {
+        Fault::Limit if medium.len() > 4096 * BLOCK => return Err(Refusal::Medium),
+        Fault::Volatile => *OWN.lock().unwrap() = Some(medium.to_vec()),
+        _ => {}
     }
+    made
 }
 
 /// Runs a packet's event on the packet that the fault lets the device see. Data of a wrapper's length is dropped whatever it is.
@@ -118,23 +132,26 @@ fn misread(block: &mut [u8]) {
     }
 }
 
+/// Where the write under way puts its next block; block 0 where none is under way.
+fn place(before: &Record) -> Range<usize> {
+    let block = if before.stage == stage::DATA_OUT { before.place as usize } else { 0 };
+    block * BLOCK..(block + 1) * BLOCK
+}
+
 /// Runs a packet's event on the medium that the fault lets the device have.
-pub fn store(medium: &mut [u8], run: impl FnOnce(&mut [u8]) -> CAnswer) -> CAnswer {
+pub fn store(before: &Record, medium: &mut [u8], run: impl FnOnce(&mut [u8]) -> CAnswer) -> CAnswer {
     match chosen() {
-        Fault::NeverStores => run(&mut medium.to_vec()),
-        Fault::Volatile => run(OWN.lock().unwrap().as_mut().expect("made")),
-        Fault::NextBlock => {
-            let old = medium.to_vec();
+        Fault::NeverStores | Fault::NextBlock => {
+            let place = place(before);
+            let old = medium[place.clone()].to_vec();
             let answer = run(medium);
-            let stored =
-                (0..old.len()).step_by(BLOCK).find(|&at| old[at..at + BLOCK] != medium[at..at + BLOCK]);
-            if let Some(at) = stored {
-                let next = (at + BLOCK) % old.len();
-                medium.copy_within(at..at + BLOCK, next);
-                medium[at..at + BLOCK].copy_from_slice(&old[at..at + BLOCK]);
+            if chosen() == Fault::NextBlock && medium[place.clone()] != old {
+                medium.copy_within(place.clone(), place.end % medium.len());
             }
+            medium[place].copy_from_slice(&old);
             answer
         }
+        Fault::Volatile => run(OWN.lock().unwrap().as_mut().expect("made")),
         Fault::PartStored => {
             if let Some((at, part)) = PART.lock().unwrap().take() {
                 medium[at..at + BLOCK].copy_from_slice(&part);
@@ -204,8 +221,19 @@ fn without_zeros(buffer: &mut [u8]) -> usize {
     buffer[0].into()
 }
 
+/// The place of the transfer under way, in a device whose addresses are too short for it.
+fn wrap(record: &mut Record, blocks: u32) {
+    match record.stage {
+        stage::DATA_OUT => record.place %= blocks,
+        stage::DATA_IN => record.place %= blocks * BLOCK as u32,
+        _ => {}
+    }
+}
+
 pub fn bulk_out(record: &mut Record, packet: &[u8]) {
     match chosen() {
+        Fault::Wrap4096 => wrap(record, 4096),
+        Fault::Wrap65536 => wrap(record, 65_536),
         Fault::Sense if record.stage == stage::REQUEST_SENSE => record.value = 0,
         Fault::Sum if record.stage == stage::FAILED && packet.len() == WRAPPER && packet[COMMAND] == 0x2F => {
             let address = u32::from_be_bytes(packet[17..21].try_into().unwrap());
@@ -235,6 +263,8 @@ pub fn bulk_in(before: &Record, record: &mut Record, buffer: &mut [u8], answer: 
         Fault::NoHalt if !status => record.flags &= !flag::HALT_IN,
         Fault::Tag if status => buffer[4] ^= 1,
         Fault::Residue if before.stage == stage::PASSED => buffer[8..12].fill(0),
+        Fault::Wrap4096 => wrap(record, 4096),
+        Fault::Wrap65536 => wrap(record, 65_536),
         _ => {}
     }
     answer
