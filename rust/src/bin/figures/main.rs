@@ -1,11 +1,14 @@
 //! The figures of the ordinary and of the proved device, in lines of words parted by tabs; the script `bench` makes
 //! the table of them.
 //!
-//! - `figures time`: for each kind of event the quartiles of its time, then those of long transfers.
+//! - `figures time`: for each kind of event the quartiles of its time, then those of long transfers, then those of the
+//!   same events over small and large media.
 //! - `figures count <kind> ordinary|proved|idle <events>`: plays so many events, to count instructions from outside.
+//!   A kind of `stores` is written with the number of its medium, as in `wrapper@2`.
 
 mod scene;
 mod side;
+mod stores;
 mod time;
 
 use ordinary::device::Device;
@@ -14,10 +17,11 @@ use scene::{scenes, Scene};
 use side::{play, Idle, Side};
 use std::hint::black_box;
 use std::process::ExitCode;
+use stores::STORES;
 
 const MOST_COUNTED: usize = 2000;
 
-fn line(kind: &str, key: &str, name: &str, values: [time::Quartiles; 2]) {
+fn line(kind: &str, key: &str, name: &str, values: &[time::Quartiles]) {
     let values: Vec<String> = values.as_flattened().iter().map(|value| format!("{value:.2}")).collect();
     println!("{kind}\t{key}\t{name}\t{}", values.join("\t"));
 }
@@ -25,15 +29,27 @@ fn line(kind: &str, key: &str, name: &str, values: [time::Quartiles; 2]) {
 fn times() {
     println!("sizes\t{}\t{}", size_of::<Device>(), size_of::<Record>());
     for scene in scenes() {
-        line("event", scene.key, scene.name, time::events(&scene));
+        line("event", scene.key, scene.name, &time::events(&scene));
     }
-    line("rate", "read", "Read(10) of 64 KiB", time::transfers(true));
-    line("rate", "write", "Write(10) of 64 KiB", time::transfers(false));
+    line("rate", "read", "Read(10) of 64 KiB", &time::transfers(true));
+    line("rate", "write", "Write(10) of 64 KiB", &time::transfers(false));
+    let [small, large, end] = STORES.map(stores::scenes);
+    for ((small, large), end) in small.into_iter().zip(large).zip(end) {
+        line("store", small.key, small.name, &time::by_turns(&[&small, &large, &end]));
+    }
+}
+
+fn find(key: &str) -> Option<Scene> {
+    let (key, scenes) = match key.split_once('@') {
+        Some((key, store)) => (key, stores::scenes(*STORES.get(store.parse::<usize>().ok()?)?)),
+        None => (key, scenes()),
+    };
+    scenes.into_iter().find(|scene| scene.key == key)
 }
 
 /// The devices are prepared for the longest run, so that runs differ by their events alone.
 fn count<S: Side>(scene: &Scene, events: usize) {
-    let (mut medium, mut buffer) = (scene::medium(), [0; 64]);
+    let (mut medium, mut buffer) = (scene.medium(), [0; 64]);
     let mut devices = vec![S::new(&scene.before); MOST_COUNTED];
     play(&mut devices[..events], &scene.input, &mut medium, &mut buffer);
     black_box((devices, medium, buffer));
@@ -48,8 +64,7 @@ fn main() -> ExitCode {
             return ExitCode::SUCCESS;
         }
         ["count", key, side, events] => {
-            let scene = scenes().into_iter().find(|scene| scene.key == key);
-            if let (Some(scene), Ok(events @ ..=MOST_COUNTED)) = (scene, events.parse()) {
+            if let (Some(scene), Ok(events @ ..=MOST_COUNTED)) = (find(key), events.parse()) {
                 match side {
                     "ordinary" => count::<Device>(&scene, events),
                     "proved" => count::<Record>(&scene, events),

@@ -5,10 +5,10 @@ use ordinary::record::Record;
 use ordinary::scsi::code;
 use ordinary::wrapper::{CBW_SIGNATURE, CBW_SIZE};
 
-/// The medium, and the 64 KiB of a long read or write from its block `FIRST` on.
+/// The usual medium, and the 64 KiB of a long read or write from its block `FIRST` on.
 pub const BLOCKS: usize = 256;
 pub const LONG: u16 = 128;
-const FIRST: u8 = 32;
+pub const FIRST: u32 = 32;
 
 /// What is sent to the device.
 #[derive(Clone, Copy)]
@@ -37,7 +37,14 @@ pub struct Scene {
     pub input: Input,
 }
 
-pub fn wrapper(operation: u8, count: u16) -> [u8; CBW_SIZE] {
+impl Scene {
+    /// A medium for the record before the event.
+    pub fn medium(&self) -> Vec<u8> {
+        medium(self.before.blocks as usize)
+    }
+}
+
+pub fn wrapper(operation: u8, block: u32, count: u16) -> [u8; CBW_SIZE] {
     let mut packet = [0; CBW_SIZE];
     packet[..4].copy_from_slice(&CBW_SIGNATURE);
     packet[4..8].copy_from_slice(&[1, 2, 3, 4]);
@@ -45,27 +52,31 @@ pub fn wrapper(operation: u8, count: u16) -> [u8; CBW_SIZE] {
     packet[12] = if operation == code::READ { 0x80 } else { 0 };
     packet[14] = 10;
     packet[15] = operation;
-    packet[20] = FIRST;
+    packet[17..21].copy_from_slice(&block.to_be_bytes());
     packet[22..24].copy_from_slice(&count.to_be_bytes());
     packet
 }
 
-/// A configured device, ready for a wrapper.
-pub fn ready() -> Device {
+/// A configured device over a medium, ready for a wrapper.
+pub fn ready(medium: &[u8]) -> Device {
     let identity = Identity { number: 42, vendor: 1, product: 2, release: 3 };
-    let mut device = Device::make(identity, &medium()).expect("the medium and the number are good");
+    let mut device = Device::make(identity, medium).expect("the medium and the number are good");
     device.control(&[0x00, 0x09, 1, 0, 0, 0, 0, 0], &mut [0; PACKET]);
     device
 }
 
-pub fn medium() -> Vec<u8> {
-    (0..BLOCKS * BLOCK).map(|at| (at / 7) as u8).collect()
+/// The usual medium's bytes, then zeros that cost nothing until they are touched.
+pub fn medium(blocks: usize) -> Vec<u8> {
+    let mut medium = vec![0; blocks * BLOCK];
+    medium.iter_mut().take(BLOCKS * BLOCK).enumerate().for_each(|(at, byte)| *byte = (at / 7) as u8);
+    medium
 }
 
 /// The state after a write's wrapper and some packets.
-fn writing(packets: usize) -> Record {
-    let (mut device, mut medium) = (ready(), medium());
-    device.bulk_out(&mut medium, &wrapper(code::WRITE, LONG));
+pub fn writing(blocks: usize, wrapper: &[u8], packets: usize) -> Record {
+    let mut medium = medium(blocks);
+    let mut device = ready(&medium);
+    device.bulk_out(&mut medium, wrapper);
     for _ in 0..packets {
         device.bulk_out(&mut medium, &[0x5A; PACKET]);
     }
@@ -73,9 +84,10 @@ fn writing(packets: usize) -> Record {
 }
 
 /// The state after a read's wrapper and some asks.
-fn reading(asks: usize) -> Record {
-    let (mut device, mut medium) = (ready(), medium());
-    device.bulk_out(&mut medium, &wrapper(code::READ, LONG));
+pub fn reading(blocks: usize, wrapper: &[u8], asks: usize) -> Record {
+    let mut medium = medium(blocks);
+    let mut device = ready(&medium);
+    device.bulk_out(&mut medium, wrapper);
     for _ in 0..asks {
         device.bulk_in(&medium, &mut [0; PACKET]);
     }
@@ -83,14 +95,17 @@ fn reading(asks: usize) -> Record {
 }
 
 pub fn scenes() -> Vec<Scene> {
-    let ready = ready().to_record();
+    let ready = ready(&medium(BLOCKS)).to_record();
+    let (read, write) = (wrapper(code::READ, FIRST, LONG), wrapper(code::WRITE, FIRST, LONG));
+    let reading = |asks| reading(BLOCKS, &read, asks);
+    let writing = |packets| writing(BLOCKS, &write, packets);
     let scene = |key, name, before, input| Scene { key, name, before, input };
     vec![
         scene("data-in", "bulk-in data, 64 bytes of a long read", reading(500), Input::Ask),
         scene("gather", "bulk-out data, packet within a block", writing(803), Input::Data(1)),
         scene("store", "bulk-out data, packet that stores the block", writing(807), Input::Data(1)),
         scene("block", "bulk-out data, mean over a block", writing(800), Input::Data(8)),
-        scene("wrapper", "command wrapper, Read(10)", ready, Input::Wrapper(wrapper(code::READ, LONG))),
+        scene("wrapper", "command wrapper, Read(10)", ready, Input::Wrapper(read)),
         scene("status", "status wrapper", reading(1024), Input::Ask),
         scene(
             "descriptor",

@@ -1,6 +1,6 @@
 //! Times: batches of prepared devices, timed as a whole, the two devices by turns.
 
-use crate::scene::{medium, ready, wrapper, Scene, LONG};
+use crate::scene::{medium, ready, wrapper, Scene, BLOCKS, FIRST, LONG};
 use crate::side::{play, Idle, Side};
 use ordinary::device::{Device, BLOCK, PACKET};
 use ordinary::record::Record;
@@ -50,7 +50,7 @@ impl<S: Side> Batch<S> {
 
 /// Nanoseconds an event, of the ordinary and of the proved device, less those of a device that does nothing.
 pub fn events(scene: &Scene) -> [Quartiles; 2] {
-    let mut medium = medium();
+    let mut medium = scene.medium();
     let mut idle = Batch::<Idle>::new(scene);
     let mut ordinary = Batch::<Device>::new(scene);
     let mut proved = Batch::<Record>::new(scene);
@@ -68,9 +68,25 @@ pub fn events(scene: &Scene) -> [Quartiles; 2] {
     [ordinary.samples, proved.samples].map(|samples| quartiles(samples).map(|time| time - nothing))
 }
 
+/// Nanoseconds an event, of the proved device, of one event over several media.
+pub fn by_turns(scenes: &[&Scene]) -> Vec<Quartiles> {
+    let mut idle = Batch::<Idle>::new(scenes[0]);
+    let mut media: Vec<_> =
+        scenes.iter().map(|scene| (scene, scene.medium(), Batch::<Record>::new(scene))).collect();
+    for _ in 0..ROUNDS {
+        idle.round(scenes[0], &mut media[0].1);
+        for (scene, medium, proved) in &mut media {
+            proved.round(scene, medium);
+        }
+    }
+    let [_, nothing, _] = quartiles(idle.samples);
+    let less = |samples| quartiles(samples).map(|time| time - nothing);
+    media.into_iter().map(|(_, _, proved)| less(proved.samples)).collect()
+}
+
 fn long_read<S: Side>(device: &mut S, medium: &mut [u8]) -> u32 {
     let mut buffer = [0; PACKET];
-    let mut sum = device.bulk_out(medium, &wrapper(code::READ, LONG));
+    let mut sum = device.bulk_out(medium, &wrapper(code::READ, FIRST, LONG));
     for _ in 0..PACKETS + 1 {
         sum += device.bulk_in(medium, black_box(&mut buffer));
     }
@@ -78,7 +94,7 @@ fn long_read<S: Side>(device: &mut S, medium: &mut [u8]) -> u32 {
 }
 
 fn long_write<S: Side>(device: &mut S, medium: &mut [u8]) -> u32 {
-    let mut sum = device.bulk_out(medium, &wrapper(code::WRITE, LONG));
+    let mut sum = device.bulk_out(medium, &wrapper(code::WRITE, FIRST, LONG));
     for _ in 0..PACKETS {
         sum += device.bulk_out(medium, black_box(&[0xA5; PACKET]));
     }
@@ -96,8 +112,8 @@ fn rate<S: Side>(device: &mut S, medium: &mut [u8], read: bool) -> f64 {
 
 /// Megabytes a second over a whole read or write: wrapper, data, status.
 pub fn transfers(read: bool) -> [Quartiles; 2] {
-    let mut medium = medium();
-    let mut device = ready();
+    let mut medium = medium(BLOCKS);
+    let mut device = ready(&medium);
     let mut record = device.to_record();
     let mut samples = [vec![], vec![]];
     for round in 0..LONG_ROUNDS {
