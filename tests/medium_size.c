@@ -102,7 +102,7 @@ static void served(store *store)
     }
 }
 
-/* Lengths that are refused at making; of the last ones 32 bits would show a length that is served. */
+/* Lengths that are refused at making. Of the last one 32 bits would show a single block. */
 static void unserved(store *store)
 {
     static const size_t lengths[] = {
@@ -129,6 +129,7 @@ static void misfits(store *store)
         plug(store, COLLECTOR_MAX_BLOCKS);
         start(store, codes[at], 0, 2, codes[at] == VERIFY ? 0 : 1024);
         before = store->record;
+        memset(store->buffer, FILL, sizeof store->buffer);
         store->length -= 512;
         EQUAL(number_of(ask_of(store)), COLLECTOR_BAD_MEDIUM);
         EQUAL(send_to(store, store->buffer, 64), COLLECTOR_BAD_MEDIUM);
@@ -141,6 +142,7 @@ static void misfits(store *store)
         EQUAL(request(store, SET_CONFIGURATION), COLLECTOR_BAD_RECORD);
         EQUAL(number_of(collector_bus_reset(&store->record)), COLLECTOR_BAD_RECORD);
         CHECK(same_record(&store->record, &before));
+        CHECK(filled(store->buffer, sizeof store->buffer, FILL));
     }
 }
 
@@ -186,8 +188,8 @@ static void range(store *store)
     }
 }
 
-/* Two blocks at each place where a number needs one bit more, and the last two: written and read back; no other
- * changes. */
+/* The first two blocks, the last two, and two across 4,096, 65,536 and 524,288, where a number needs one bit more:
+ * written and read back. No other block changes. */
 static void far_blocks(store *store)
 {
     static const uint32_t firsts[] = {0, 4095, 65535, 524287, 1048574};
@@ -227,8 +229,10 @@ static void long_read(store *store)
 
     plug(store, COLLECTOR_MAX_BLOCKS);
     start(store, READ, COLLECTOR_MAX_BLOCKS - 65535, 65535, 65535 * 512);
-    for (size_t place = first; place < COLLECTOR_MAX_MEDIUM_SIZE; place += 64)
+    for (size_t place = first; place < COLLECTOR_MAX_MEDIUM_SIZE; place += 64) {
+        EQUAL(store->record.place, place);
         expect_data(store, store->medium + place, 64);
+    }
     expect_end(store, PASSED);
 }
 

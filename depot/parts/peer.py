@@ -11,7 +11,7 @@ class Refused(Exception):
 
     def __init__(self, order, why):
         super().__init__("%s: %s" % (order, why))
-        self.check = "device-made" if "making" in why else "peer"
+        self.check = "device-made" if why.startswith("making") else "peer"
 
 
 class Peer:
