@@ -51,6 +51,7 @@ extern "C" {
 #define COLLECTOR_STAGE_PASSED 7u           /* 7 to 9: the status wrapper is due */
 #define COLLECTOR_STAGE_FAILED 8u
 #define COLLECTOR_STAGE_PHASE_ERROR 9u
+#define COLLECTOR_STAGE_PAGE 10u            /* a product page: the reply to Inquiry with EVPD set */
 
 /* The bits of a record's flags. */
 #define COLLECTOR_FLAG_CONFIGURED 1u
@@ -73,10 +74,10 @@ typedef struct collector_record {
     uint16_t release;
     uint16_t reserved0;     /* reserved bytes are not looked at and have no defined content */
     uint32_t residue;       /* of the command in hand, as are tag and announced; 0 where none is */
-    uint32_t place;         /* stage 1: the next block; 2 to 6: the next byte of the medium or reply; else 0 */
-    uint32_t left;          /* stage 1: blocks still due; 2 to 6: bytes still due; else 0 */
+    uint32_t place;         /* stage 1: the next block; 2 to 6 and 10: the next byte of the medium or reply; else 0 */
+    uint32_t left;          /* stage 1: blocks still due; 2 to 6 and 10: bytes still due; else 0 */
     uint32_t value;         /* stage 1: bytes held of the next block; 3: the sense that is sent, key + 256 * ASC +
-                               65536 * ASCQ; 6: the blocks that are told; else 0 */
+                               65536 * ASCQ; 6: the blocks that are told; 10: the page's code; else 0 */
     uint32_t tag;
     uint32_t announced;     /* the transfer length that the host announced */
     uint32_t blocks;        /* the medium's */
@@ -118,8 +119,8 @@ _Static_assert(sizeof(collector_answer) == 16, "size of collector_answer");
  * answers the first that fails. A refusal (10 to 15) and NAK and SILENT change no field, block or buffer; reserved bytes are
  * no fields, and a refused making is told below.
  * Any bytes may be handed over as a record. It is answered COLLECTOR_BAD_RECORD where it breaks document 01's rules
- * (number 10), and where flags is over 15, stage over 9, a place, left or value not 0 in a stage that does not use it,
- * or value 2^24 or more in stage 3.
+ * (number 10), and where flags is over 15, stage over 10, a place, left or value not 0 in a stage that does not use it,
+ * value 2^24 or more in stage 3, or value other than 00, 80 or 83 hex in stage 10.
  */
 
 /*

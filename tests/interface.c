@@ -4,6 +4,7 @@
  */
 #include "bench.h"
 #include "medium_size.h"
+#include "product_pages.h"
 #include "records.h"
 
 #include <inttypes.h>
@@ -87,7 +88,7 @@ static void refusals(void)
     EQUAL(send_packet(&bench, packet, 31), COLLECTOR_SILENT);
     EQUAL(ask(&bench), COLLECTOR_SILENT);
     CHECK(same(&bench, &before));
-    record->stage = before.record.stage = 10;
+    record->stage = before.record.stage = 11;
     EQUAL(number_of(collector_bus_reset(record)), COLLECTOR_BAD_RECORD);
     EQUAL(number_of(collector_control(record, packet, 7, bench.buffer, 0)), COLLECTOR_BAD_RECORD);
     EQUAL(number_of(collector_bulk_out(record, bench.medium, 0, packet, 65)), COLLECTOR_BAD_RECORD);
@@ -146,9 +147,11 @@ static void expect_serial(uint64_t number)
         EQUAL(bench.buffer[3 + 2 * at], 0);
     }
     CHECK(filled(bench.buffer + 26, sizeof bench.buffer - 26, FILL));
+    expect_page_digits(number, digits);
 }
 
-/* The device makes the twelve digits in six pairs: each pair of digits at each place, zeros and then nines at the others. */
+/* The device makes the twelve digits in six pairs: each pair of digits at each place, zeros and then nines at the others. They are
+ * the same as a USB string and in the product pages. */
 static void serial_numbers(void)
 {
     for (uint64_t place = 1; place < COLLECTOR_MAX_NUMBER; place *= 100)
@@ -269,8 +272,8 @@ static void control_byte(void)
     }
 }
 
-/* Inquiry's allocation length is bytes 3 and 4, big endian; Request Sense's and Mode Sense's is byte 4. Each with all
- * 65,536 values of the two bytes, 256 bytes announced: a length over the reply's changes nothing. */
+/* Inquiry's allocation length, of its pages too, is bytes 3 and 4, big endian; Request Sense's and Mode Sense's is byte 4. Each with
+ * all 65,536 values of the two bytes, 256 bytes announced: a length over the reply's changes nothing. */
 static void allocation_lengths(void)
 {
     static const struct {
@@ -280,12 +283,15 @@ static void allocation_lengths(void)
         {REQUEST_SENSE, "\x70\0\0\0\0\0\0\x0A\0\0\0\0\0\0\0\0\0\0", 18, 256},
         {INQUIRY, "\x00\x80\x05\x02\x1F\0\0\0" "COLLECT METER EXPORT    0100", 36, 65536},
         {MODE_SENSE, "\x03\0\0\0", 4, 256},
+        {PAGE_00, "\0\0\0\x03\0\x80\x83", 7, 65536},
+        {PAGE_80, "\0\x80\0\x0C" "000000000042", 16, 65536},
+        {PAGE_83, "\0\x83\0\x18\x02\x01\0\x14" "COLLECT 000000000042", 28, 65536},
     };
     bench bench;
     char block[10];
 
     configure(&bench);
-    for (uint32_t at = 0; at < 3 * 65536; at++) {
+    for (uint32_t at = 0; at < 6 * 65536; at++) {
         const uint32_t code = at / 65536, both = at % 65536, size = rows[code].size;
         const uint32_t allocated = both % rows[code].range, sent = allocated < size ? allocated : size;
         const char residue[4] = {(char)((256 - sent) % 256), (char)((256 - sent) / 256), 0, 0};
@@ -317,6 +323,8 @@ int main(void)
     broken_write();
     control_byte();
     allocation_lengths();
+    page_codes();
+    page_records();
     records_that_do_not_decode();
     records_that_do_not_fit();
     printf("interface: %u checks passed\n", checks);

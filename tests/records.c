@@ -5,7 +5,7 @@
 
 #include "bench.h"
 
-enum { STAGES = 10 };
+enum { STAGES = 11 };
 
 /* A device in each stage, and what its record then holds. */
 static void reach(bench *bench, unsigned stage)
@@ -63,6 +63,11 @@ static void reach(bench *bench, unsigned stage)
         expect_stage(bench, COLLECTOR_STAGE_FAILED, 0, 0, 0);
         EQUAL(bench->record.flags, COLLECTOR_FLAG_CONFIGURED | COLLECTOR_FLAG_HALT_IN);
         return;
+    case COLLECTOR_STAGE_PAGE:
+        command(bench, 64, 0x80, PAGE_80);
+        expect_stage(bench, COLLECTOR_STAGE_PAGE, 0, 16, 0x80);
+        expect_command(bench, 64, 64);
+        return;
     default:
         command(bench, 18, 0x80, INQUIRY);
         expect_stage(bench, COLLECTOR_STAGE_PHASE_ERROR, 0, 0, 0);
@@ -97,9 +102,10 @@ static void must_be_zero(const bench *reached, size_t field)
 void records_that_do_not_decode(void)
 {
     for (unsigned stage = 0; stage < STAGES; stage++) {
-        bool transfer = stage >= COLLECTOR_STAGE_DATA_OUT && stage <= COLLECTOR_STAGE_READ_CAPACITY;
+        bool transfer = (stage >= COLLECTOR_STAGE_DATA_OUT && stage <= COLLECTOR_STAGE_READ_CAPACITY) ||
+                        stage == COLLECTOR_STAGE_PAGE;
         bool valued = stage == COLLECTOR_STAGE_DATA_OUT || stage == COLLECTOR_STAGE_REQUEST_SENSE ||
-                      stage == COLLECTOR_STAGE_READ_CAPACITY;
+                      stage == COLLECTOR_STAGE_READ_CAPACITY || stage == COLLECTOR_STAGE_PAGE;
         bench reached, damaged;
 
         reach(&reached, stage);
@@ -166,6 +172,12 @@ void records_that_do_not_fit(void)
     REFUSED_WITH(COLLECTOR_STAGE_MODE_SENSE, residue, 3);
     REFUSED_WITH(COLLECTOR_STAGE_READ_CAPACITY, announced, 7);
     REFUSED_WITH(COLLECTOR_STAGE_PASSED, residue, 101);
+    REFUSED_WITH(COLLECTOR_STAGE_PAGE, value, 0x81);
+    REFUSED_WITH(COLLECTOR_STAGE_PAGE, value, 0x180);
+    REFUSED_WITH(COLLECTOR_STAGE_PAGE, place, 1);
+    REFUSED_WITH(COLLECTOR_STAGE_PAGE, left, 17);
+    REFUSED_WITH(COLLECTOR_STAGE_PAGE, residue, 15);
+    REFUSED_WITH(COLLECTOR_STAGE_PAGE, flags, 0);
     REFUSED_WITH(COLLECTOR_STAGE_FAILED, announced, 99);
     REFUSED_WITH(COLLECTOR_STAGE_PHASE_ERROR, announced, 17);
 }

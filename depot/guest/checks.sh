@@ -105,6 +105,14 @@ octets() {
     same bytes "$(hexdump -v -e '/1 "%02X "' /tmp/got | sed 's/ $//')" "$expected"
 }
 
+# gives WHAT EXPECTED COMMAND..: what the command prints, its complaints too.
+gives() {
+    what=$1
+    expected=$2
+    shift 2
+    same "$what" "$("$@" 2>&1)" "$expected"
+}
+
 # phase raw ..: the command ends in a transport error; the kernel resets the port and finds the device again.
 phase() {
     dmesg -c >/dev/null

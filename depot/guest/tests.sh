@@ -2,6 +2,30 @@
 
 mark "the guest is up: Linux $(uname -r)"
 
+# The product pages of the bench's device (document 02, A2): whole, cut, and refused.
+product_pages() {
+    check sg_vpd-sv gives pages "sv sn di" page_00
+    check sg_vpd-sn gives serial 000000000042 page_80
+    check sg_vpd-di gives identifier "${IDENTIFIER}000000000042" page_83
+    check page-00 received 7 /depot/page-00 raw -r 7 -- 12 01 00 00 07 00
+    check page-80 received 16 /depot/page-80 raw -r 16 -- 12 01 80 00 10 00
+    check page-83 received 28 /depot/page-83 raw -r 28 -- 12 01 83 00 1C 00
+    check page-00-cut received 6 /depot/page-00 raw -r 6 -- 12 01 00 00 06 00
+    check page-80-cut octets "00 80 00 0C" raw -r 64 -- 12 01 80 00 04 00
+    check page-83-cut received 27 /depot/page-83 raw -r 27 -- 12 01 83 00 1B 00
+    check page-80-of-0 nothing raw -r 16 -- 12 01 80 00 00 00
+    check page-83-of-261 received 28 /depot/page-83 raw -r 261 -- 12 01 83 01 05 00
+    check page-80-of-65535 received 16 /depot/page-80 raw -r 65535 -- 12 01 80 FF FF 00
+    check page-refused sense "Invalid field in cdb" raw -r 252 -- 12 01 B0 00 FC 00
+    check page-refused-of-0 sense "Invalid field in cdb" raw -- 12 01 81 00 00 00
+    check page-without-evpd sense "Invalid field in cdb" raw -r 16 -- 12 00 80 00 10 00
+    check page-naca-bit-refused sense "Invalid field in cdb" raw -r 16 -- 12 01 80 00 10 04
+    check evpd-among-other-bits received 16 /depot/page-80 raw -r 16 -- 12 FF 80 00 10 00
+    check other-bits-without-evpd received 36 /depot/inquiry raw -r 36 -- 12 FE 00 00 24 00
+    check next-command-after-pages block_0 /depot/bench.before
+    mark "product pages: whole, cut, refused"
+}
+
 # The bench's device (number 42, other numbers 0, 64 zero blocks): its first events become a recording.
 bench_device() {
     plug bench 42 0000 0000 0000 || return
@@ -34,6 +58,7 @@ bench_device() {
     check inquiry-of-65535 received 36 /depot/inquiry raw -r 65535 -- 12 00 00 FF FF 00
     check request-sense-cut-by-byte-4 received 5 /depot/no-sense raw -r 18 -- 03 00 00 01 05 00
     check mode-sense-cut-by-byte-4 received 2 /depot/mode-sense raw -r 192 -- 1A 00 3F 01 02 00
+    product_pages
     check short-data-in received 512 /depot/bench.before raw -r 1024 -- 28 00 00 00 00 00 00 00 01 00
     check short-data-out raw -s 1024 -i /depot/bench.data -- 2A 00 00 00 00 00 00 00 01 00
     check short-data-out-stored block_0 /depot/bench.data
@@ -46,6 +71,8 @@ bench_device() {
     check bench-writes writes bench
     check bench-reads-back reads bench.after
     ask "save bench"
+    serials bench # after all that is recorded
+    check bench-clerk clerk_files bench
     unplug
 }
 
@@ -53,6 +80,8 @@ bench_device() {
 transport() {
     plug transport 0 1209 0001 0100 || return
     check serial-twelve-zeros attribute serial 000000000000
+    serials transport
+    check transport-clerk clerk_files transport
     dmesg -c >/dev/null
     echo "$(basename "$usb"):1.0" >/sys/bus/usb/drivers/usb-storage/unbind
     file=$(printf /dev/bus/usb/%03d/%03d "$(cat "$usb/busnum")" "$(cat "$usb/devnum")")
@@ -72,6 +101,8 @@ transport() {
 largest() {
     plug largest 999999999999 1209 0001 0100 || return
     check serial-all-nines printed "SerialNumber: 999999999999"
+    serials largest
+    check largest-clerk clerk_files largest
     check identity printed "New USB device found, idVendor=1209, idProduct=0001, bcdDevice= 1.00"
     check blocks-1048576 blocks 1048576 "(537 MB/512 MiB)"
     check largest-sg_readcap has "Last LBA=1048575 (0xfffff), Number of logical blocks=1048576" sg_readcap "/dev/$sg"
@@ -98,6 +129,7 @@ file_system() {
     unplug
     ask "save file-system"
     plug same 999999999999 1209 0001 0100 || return
+    check largest-clerk-again clerk_knows largest
     check fsck.vfat fsck.fat -n "/dev/$disk"
     check mount-again mount -t vfat -o ro "/dev/$disk" /mnt
     check compare cmp /mnt/meter.csv /depot/meter.csv
@@ -106,10 +138,13 @@ file_system() {
     unplug
 }
 
-# whole NAME NUMBER BLOCKS: all blocks read, some written, all read back.
+# whole NAME NUMBER BLOCKS: the pages as the kernel read them, all blocks read, some written, all read back.
 whole() {
     plug "$1" "$2" 1209 0001 0100 || return
     check "serial-$1" attribute serial "$(printf %012d "$2")"
+    kernel_pages "$1"
+    serials "$1"
+    check "$1-clerk" clerk_files "$1"
     check "blocks-$3" blocks "$3"
     check "$1-reads" reads "$1.before"
     check "$1-writes" writes "$1"
@@ -122,7 +157,14 @@ whole() {
 bench_device
 # QEMU's uhci does not take a transfer back that waits, so that it would answer a later ask.
 [ "$(cat /depot/controller)" = xhci ] && transport
-whole one 1 1
+# 4200 has the digits of 42, in other places; 4201 differs from it in one digit.
+kernel_asks_for_pages 0x10000000
+whole one 4200 1
 whole seven 7000000 7
-whole large 4096 4096
+whole large 4201 4096
+kernel_asks_for_pages 0
 largest && file_system
+filed="000000000042 000000004200 000000004201 000007000000 999999999999"
+[ "$(cat /depot/controller)" = xhci ] && filed="000000000000 $filed"
+check clerk-told-all-apart clerk_has "$filed"
+mark "the clerk has a file of each collector"

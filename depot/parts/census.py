@@ -4,15 +4,30 @@ import struct
 from . import log
 from .decode import is_cbw, is_csw
 from .media import LARGEST
-from .rules import control_byte
+from .replies import product_pages
+from .rules import allocation_length, control_byte, page_code
 
 # The least that the guest's tests provoke, and what the probe adds, which runs under xhci.
 # "control bytes" are wrappers whose control byte is not 0: Linux handed the bits on as sg_raw was given them. In the same way
 # "lengths with byte 3" are wrappers of codes 03, 12 and 1A whose byte 3 is not 0, and "reads past 65,535" and the writes are
 # wrappers in range whose last block is at 65,536 or behind it.
-LEAST = {"devices": 6, "bus resets": 10, "failed": 15, "phase errors": 2, "stalls": 32, "control bytes": 5,
-         "lengths with byte 3": 5, "reads past 65,535": 17, "writes past 65,535": 5}
-LEAST_WITH_PROBE = {"phase errors": 3, "lengths with byte 3": 6, "naks": 3, "taken back": 2, "mass storage resets": 4}
+LEAST = {"devices": 6, "bus resets": 10, "failed": 19, "phase errors": 2, "stalls": 32, "control bytes": 6,
+         "lengths with byte 3": 7, "reads past 65,535": 17, "writes past 65,535": 5,
+         "page 00 whole": 6, "page 80 whole": 6, "page 83 whole": 6, "page 00 cut": 4, "page 80 cut": 4, "page 83 cut": 4,
+         "page 80 of 0 bytes": 1, "refused pages": 1, "refused pages of 0 bytes": 1}
+LEAST_WITH_PROBE = {"failed": 272, "phase errors": 4, "lengths with byte 3": 9, "naks": 3, "taken back": 2, "mass storage resets": 5,
+                    "page 00 of 0 bytes": 1, "page 80 of 0 bytes": 2, "page 83 of 0 bytes": 2, "refused pages of 0 bytes": 254}
+PAGE_SIZES = {code: len(page) for code, page in product_pages(0).items()}  # every number's are as long
+
+
+def page_kind(block):
+    """What an Inquiry asks for (document 02, A2): a page whole, cut, or of 0 bytes, or one that there is not. None: no page at all."""
+    page, most = page_code(block), allocation_length(block)
+    if page is None:
+        return None
+    if page not in PAGE_SIZES:
+        return "refused pages" if most else "refused pages of 0 bytes"
+    return "page %02X %s" % (page, "of 0 bytes" if not most else "cut" if most < PAGE_SIZES[page] else "whole")
 
 
 def is_far(block):
@@ -34,6 +49,8 @@ def count(entries):
         if entry.kind == 3 and is_cbw(entry.body):
             block = entry.body[15:]
             seen["control bytes"] += control_byte(block) != 0
+            if page_kind(block):
+                seen[page_kind(block)] += 1
             seen["lengths with byte 3"] += block[0] in (0x03, 0x12, 0x1A) and block[3] != 0
             seen["reads past 65,535"] += block[0] == 0x28 and is_far(block)
             seen["writes past 65,535"] += block[0] == 0x2A and is_far(block)

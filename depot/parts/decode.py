@@ -2,7 +2,7 @@
 import struct
 
 from . import log
-from .rules import allocation_length, control_byte
+from .rules import allocation_length, control_byte, page_code
 
 REQUESTS = {
     (0x00, 0x05): "Set Address", (0x00, 0x09): "Set Configuration", (0x80, 0x08): "Get Configuration",
@@ -37,6 +37,8 @@ def command(block):
         first, count = struct.unpack_from(">IxH", block, 2)
         name = "%s block %d count %d" % (name, first, count)
     elif block[0] in (0x03, 0x12, 0x1A):
+        page = page_code(block)
+        name += "" if page is None else " page %02X" % page
         name = "%s, allocation length %d" % (name, allocation_length(block))
     control = control_byte(block)
     return name + (", control byte %02X" % control if control else "")
@@ -61,13 +63,22 @@ def csw(data):
     return "CSW %X: %s, residue %d" % (tag, STATUS.get(status, "status %d" % status), residue)
 
 
-def reply(event, command_code):
-    """What data means, after the request or the command that it answers."""
-    data = event.data
+def page_reply(code, data):
+    """A product page as it came, whole or cut (document 02, A2): what stands behind its head, of four bytes or, with page 83's, eight."""
+    head = {0x80: 4, 0x83: 8}.get(code, len(data))
+    behind = ' "%s"' % data[head:].decode("ascii", "replace") if len(data) > head else ""
+    return "%d bytes: " % len(data) + data[:head].hex(" ").upper() + behind
+
+
+def reply(event, block):
+    """What data means, after the request or the command block that it answers."""
+    data, command_code = event.data, block[0] if block else None
     if event.kind == 2 and event.body[:2] == b"\x80\x06" and event.body[3] == 3 and event.body[2] > 0:
         return '"%s"' % data[2:].decode("utf-16-le", "replace")
     if event.kind == 4 and command_code == 0x03 and len(data) >= 14:
         return "sense %02X/%02X/%02X" % (data[2] & 0x0F, data[12], data[13])
+    if event.kind == 4 and block and page_code(block) is not None:
+        return page_reply(page_code(block), data)
     if event.kind == 4 and command_code == 0x12 and len(data) >= 36:
         return '"%s" "%s" "%s"' % tuple(data[a:b].decode("ascii", "replace") for a, b in ((8, 16), (16, 32), (32, 36)))
     if event.kind == 4 and command_code == 0x25 and len(data) == 8:
@@ -77,7 +88,7 @@ def reply(event, command_code):
 
 def lines(entries):
     """(time, what the host sent, what the device answered), runs of equal data packets together."""
-    rows, code = [], None
+    rows, block = [], None
     for entry in entries:
         if isinstance(entry, log.Note):
             rows.append((entry.time, "-- " + " ".join(entry.words), ""))
@@ -90,11 +101,11 @@ def lines(entries):
         elif entry.kind == 3:
             sent = "data out, %d bytes" % len(entry.body)
             if is_cbw(entry.body):
-                sent, code = cbw(entry.body), entry.body[15]
+                sent, block = cbw(entry.body), entry.body[15:]
         else:
             sent = "ask"
         if entry.word == "data":
-            answer = csw(entry.data) if entry.kind == 4 and is_csw(entry.data) else reply(entry, code)
+            answer = csw(entry.data) if entry.kind == 4 and is_csw(entry.data) else reply(entry, block)
         rows.append((entry.time, sent, answer))
     return together(rows)
 

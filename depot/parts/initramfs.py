@@ -10,7 +10,7 @@ from .places import GUEST
 MODULES = ["xhci_pci", "uhci_hcd", "usb_storage", "crct10dif_generic", "crc64_rocksoft_generic", "sd_mod", "sg",
            "vfat", "nls_cp437", "nls_ascii", "nls_iso8859_1"]
 PROGRAMS = ["usr/bin/sg_inq", "usr/bin/sg_readcap", "usr/bin/sg_turs", "usr/bin/sg_requests", "usr/bin/sg_verify",
-            "usr/bin/sg_raw", "usr/bin/sg_dd", "sbin/mkfs.fat", "sbin/fsck.fat"]
+            "usr/bin/sg_raw", "usr/bin/sg_dd", "usr/bin/sg_vpd", "lib/udev/scsi_id", "sbin/mkfs.fat", "sbin/fsck.fat"]
 LIBRARIES = ["lib/x86_64-linux-gnu/libsgutils2-1.46.so.2", "lib/x86_64-linux-gnu/libc.so.6"]
 LOADER = "lib/x86_64-linux-gnu/ld-linux-x86-64.so.2"
 
@@ -84,7 +84,7 @@ def find(name):
 def build(path, release, extra):
     """Writes the archive; `extra` are the run's own files (name, bytes), such as the blocks to write."""
     archive = Archive()
-    for folder in ("dev", "proc", "sys", "tmp", "mnt"):
+    for folder in ("dev", "proc", "sys", "tmp", "mnt", "clerk"):
         archive.folder(folder)
     archive.entry("dev/console", stat.S_IFCHR | 0o600, b"", (5, 1))
     archive.file("bin/busybox", read(find("bin/busybox")))

@@ -1,7 +1,7 @@
 """Debian's packages, downloaded and unpacked under cache/: nothing is installed, and no root is needed.
 
 cache/host has QEMU and the libraries that this computer lacks for it. cache/guest has what the guest runs: kernel, busybox,
-sg3-utils, dosfstools and their C library, as Debian built them.
+sg3-utils, dosfstools, udev's scsi_id and their C library, as Debian built them.
 """
 import os
 import shutil
@@ -10,7 +10,7 @@ import subprocess
 from .places import CACHE
 
 QEMU = ["qemu-system-x86", "qemu-system-common", "qemu-system-data", "seabios", "ipxe-qemu"]
-TOOLS = ["busybox-static", "sg3-utils", "libsgutils2-1.46-2", "dosfstools", "libc6"]
+TOOLS = ["busybox-static", "sg3-utils", "libsgutils2-1.46-2", "dosfstools", "udev", "libc6"]
 HOST = os.path.join(CACHE, "host")
 GUEST = os.path.join(CACHE, "guest")
 
@@ -47,14 +47,22 @@ def unpack(folder, names):
 
 
 def fetch(say):
-    """Fills the cache, once: a cache that was filled is taken as it is. The file `filled` names the packages and their versions."""
+    """Fills the cache, once: what is in it is taken as it is. The file `filled` names the packages and their versions."""
     filled = os.path.join(CACHE, "filled")
-    if os.path.exists(filled):
-        return
-    say("downloading Debian's packages into depot/cache (once)")
-    os.makedirs(CACHE, exist_ok=True)
-    versions = unpack(HOST, sorted(set(QEMU + missing_libraries()))) + unpack(GUEST, TOOLS + [kernel_package()])
-    with open(filled, "w", encoding="ascii") as f:
+    if not os.path.exists(filled):
+        say("downloading Debian's packages into depot/cache (once)")
+        os.makedirs(CACHE, exist_ok=True)
+        note(filled, unpack(HOST, sorted(set(QEMU + missing_libraries()))) + unpack(GUEST, TOOLS + [kernel_package()]))
+    with open(filled, encoding="ascii") as f:
+        have = {line.partition("_")[0] for line in f}
+    lacking = [name for name in TOOLS if name not in have]  # in a cache that was filled before the depot used it
+    if lacking:
+        say("downloading %s into depot/cache" % " ".join(lacking))
+        note(filled, unpack(GUEST, lacking))
+
+
+def note(filled, versions):
+    with open(filled, "a", encoding="ascii") as f:
         f.write("".join(name + "\n" for name in versions))
 
 

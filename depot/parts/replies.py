@@ -1,4 +1,4 @@
-"""The bytes that document 01 gives: descriptors, and the replies of commands."""
+"""The bytes that document 01 gives, with document 02's landed requests: descriptors, and the replies of commands."""
 import struct
 
 CONFIGURATION = bytes.fromhex("09 02 20 00 01 01 00 C0 00  09 04 00 00 02 08 06 50 00  07 05 81 02 40 00 00  07 05 02 02 40 00 00")
@@ -18,6 +18,16 @@ def utf16(text):
 
 def serial(number):
     return "%012d" % number
+
+
+def product_pages(number):
+    """Inquiry's pages by their code (document 02, A2): the list of them, the serial, and one identifier, the vendor before the serial."""
+    digits = serial(number).encode("ascii")
+    return {
+        0x00: bytes.fromhex("00 00 00 03  00 80 83"),
+        0x80: bytes.fromhex("00 80 00 0C") + digits,
+        0x83: bytes.fromhex("00 83 00 18  02 01 00 14") + b"COLLECT " + digits,
+    }
 
 
 def fixed_sense(key, code, qualifier):

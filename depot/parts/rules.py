@@ -1,5 +1,5 @@
-"""Document 01, with document 02's landed requests (A1, A5, A12), once more, in Python and from the papers alone: what a collector answers to
-each event, and what its medium then is.
+"""Document 01, with document 02's landed requests (A1, A2, A5, A12), once more, in Python and from the papers alone: what a collector
+answers to each event, and what its medium then is.
 
 A run's log is held to it event by event, so that what the guest does not notice (a residue, a halt, an answer to a request
 that Linux ignores) is looked at too. Only what a bus can bring is here: the refusals 10 to 17 are not.
@@ -7,7 +7,7 @@ that Linux ignores) is looked at too. Only what a bus can bring is here: the ref
 import struct
 
 from .blocks import BLOCK
-from .replies import CONFIGURATION, INQUIRY, LANGUAGES, MODE_SENSE, capacity, device_descriptor, fixed_sense, serial, utf16
+from .replies import CONFIGURATION, INQUIRY, LANGUAGES, MODE_SENSE, capacity, device_descriptor, fixed_sense, product_pages, serial, utf16
 
 PACKET = 64
 NO_SENSE, INVALID_CODE, OUT_OF_RANGE, INVALID_FIELD, PHASE_SENSE = (0, 0, 0), (5, 0x20, 0), (5, 0x21, 0), (5, 0x24, 0), (0x0B, 0x4B, 0)
@@ -27,6 +27,11 @@ def allocation_length(block):
     return block[3] << 8 | block[4] if block[0] == 0x12 else block[4]
 
 
+def page_code(block):
+    """The product page that a command asks for: byte 2 of an Inquiry with byte 1 bit 0, EVPD, set (document 02, A2); None of others."""
+    return block[2] if block[0] == 0x12 and block[1] & 1 else None
+
+
 class Collector:
     """`due` is what the bulk pipes wait for: "wrapper", "out", "in" or "status". The medium given (Blocks) is copied."""
 
@@ -36,6 +41,7 @@ class Collector:
             (0x0100, 0): device_descriptor(vendor, product, release), (0x0200, 0): CONFIGURATION, (0x0300, 0): LANGUAGES,
             (0x0301, 0x0409): utf16("COLLECT"), (0x0302, 0x0409): utf16("METER EXPORT"), (0x0303, 0x0409): utf16(serial(number)),
         }
+        self.pages = product_pages(number)
         self.bus_reset()
 
     def event(self, kind, body):
@@ -181,6 +187,13 @@ class Collector:
 
     # Commands
 
+    def inquiry(self, block):
+        """What an Inquiry is about, before it is cut: a product page (document 02, A2) or standard data. None where a field is bad."""
+        page = page_code(block)
+        if page is not None:
+            return self.pages.get(page)
+        return INQUIRY if block[2] == 0 else None
+
     def decide(self, block):
         """The sense that a command block leaves, the direction of its data ("" for none), their length, and their bytes or first block."""
         code, none = block[0], ("", 0, None)
@@ -196,7 +209,8 @@ class Collector:
             case 0x03:
                 return given(not block[1] & 1, cut(fixed_sense(*self.sense)))
             case 0x12:
-                return given(not block[1] & 1 and block[2] == 0, cut(INQUIRY))
+                reply = self.inquiry(block)
+                return given(reply is not None, cut(reply or b""))
             case 0x1A:
                 return given(block[2] == 0x3F, cut(MODE_SENSE))
             case 0x1E:

@@ -7,7 +7,7 @@ from . import blocks, initramfs, packages
 from .machine import Machine, SOCKET, linux
 from .media import media, meter_csv
 from .peer import Peer, Refused
-from .replies import INQUIRY, MODE_SENSE, fixed_sense
+from .replies import INQUIRY, MODE_SENSE, fixed_sense, product_pages
 
 SILENCE = 60  # seconds in which a guest that lives says something
 END = "end"
@@ -26,6 +26,7 @@ class Scene:
     def prepare(self, controller):
         files = [("meter.csv", self.csv), ("probe", initramfs.read(self.probe)), ("controller", controller.encode())]
         files += [("inquiry", INQUIRY), ("no-sense", fixed_sense(0, 0, 0)), ("mode-sense", MODE_SENSE)]
+        files += [("page-%02X" % code, page) for code, page in product_pages(42).items()]  # of the bench's device
         for name, medium in self.media.items():
             files += medium.files(name)
             medium.before.write(self.path(name + ".medium"))

@@ -49,7 +49,7 @@ def cbw(body):
     name, plain = block(body[15:15 + max(size, 10)])
     control = control_byte(body[15:])
     named = head + (" control=0x%02X" % control if control else "")
-    return "%s %s" % (named, name), "%s size=%d %s" % (head, size, plain)
+    return "%s %s" % (named, name), "%s block %s" % (head, octets(body[15:15 + size])), "%s size=%d %s" % (head, size, plain)
 
 
 def event(entry):

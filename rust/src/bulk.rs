@@ -151,7 +151,7 @@ impl Device {
                 buffer[..PACKET].copy_from_slice(&medium[from..from + PACKET]);
             }
             Source::Medium => buffer[..size].copy_from_slice(&medium[from..from + size]),
-            Source::Reply(reply) => reply.write(from, &mut buffer[..size]),
+            Source::Reply(reply) => reply.write(&self.identity, from, &mut buffer[..size]),
         }
         *place += count;
         *left -= count;

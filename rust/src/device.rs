@@ -65,6 +65,20 @@ pub struct Identity {
     pub release: u16,
 }
 
+impl Identity {
+    /// The collector number as exactly twelve decimal digits, zeros in front: the USB serial string and the product
+    /// pages tell the same (document 02, A2).
+    pub fn digits(&self) -> [u8; 12] {
+        let mut text = [0; 12];
+        let mut rest = self.number;
+        for digit in text.iter_mut().rev() {
+            *digit = b'0' + (rest % 10) as u8;
+            rest /= 10;
+        }
+        text
+    }
+}
+
 /// The command in hand: what its status wrapper will tell.
 #[derive(Clone, Copy, Debug, PartialEq, Eq)]
 pub(crate) struct Pending {

@@ -10,6 +10,7 @@ pub mod capi;
 pub mod cases;
 mod control;
 pub mod device;
+pub mod pages;
 pub mod record;
 pub mod scsi;
 pub mod usb;

@@ -1,6 +1,7 @@
 //! The C interface's record, and the ordinary device read from it and written to it.
 
 use crate::device::{Device, Identity, Pending, Source, Stage};
+use crate::pages::Page;
 use crate::scsi::{Reply, Sense};
 use crate::wrapper::Status;
 use std::mem::{align_of, offset_of, size_of};
@@ -64,7 +65,8 @@ pub mod stage {
     pub const PASSED: u8 = 7;
     pub const FAILED: u8 = 8;
     pub const PHASE_ERROR: u8 = 9;
-    pub const COUNT: usize = 10;
+    pub const PRODUCT_PAGE: u8 = 10;
+    pub const COUNT: usize = 11;
 }
 
 impl PartialEq for Record {
@@ -129,7 +131,12 @@ impl Record {
         self.flags & flag::LOCKED != 0
     }
 
-    /// `None` for a stage over 9.
+    /// Whether the status wrapper is due.
+    pub fn status_due(&self) -> bool {
+        matches!(self.stage, stage::PASSED..=stage::PHASE_ERROR)
+    }
+
+    /// `None` for a stage over 10, and for a product page that the device does not have.
     fn stage(&self) -> Option<Stage> {
         let data_in = |source| Stage::DataIn { source, place: self.place, left: self.left };
         Some(match self.stage {
@@ -146,6 +153,10 @@ impl Record {
             stage::PASSED => Stage::Status(Status::Passed),
             stage::FAILED => Stage::Status(Status::Failed),
             stage::PHASE_ERROR => Stage::Status(Status::PhaseError),
+            stage::PRODUCT_PAGE => {
+                let code = u8::try_from(self.value).ok()?;
+                data_in(Source::Reply(Reply::Page(Page::from_code(code)?)))
+            }
             _ => return None,
         })
     }
@@ -173,6 +184,10 @@ impl Record {
                 stage::REQUEST_SENSE
             }
             Source::Reply(Reply::Inquiry) => stage::INQUIRY,
+            Source::Reply(Reply::Page(page)) => {
+                self.value = page as u32;
+                stage::PRODUCT_PAGE
+            }
             Source::Reply(Reply::ModeSense) => stage::MODE_SENSE,
             Source::Reply(Reply::Capacity(blocks)) => {
                 self.value = blocks;
@@ -183,9 +198,9 @@ impl Record {
 }
 
 impl Device {
-    /// `None` where the record does not decode: flags over 15, a stage over 9, a place, left or value that its stage
-    /// does not use and that is not 0, or a reply's sense of more than three bytes. Whether it fits together is for
-    /// the events to ask.
+    /// `None` where the record does not decode: flags over 15, a stage over 10, a place, left or value that its stage
+    /// does not use and that is not 0, a reply's sense of more than three bytes, or a product page that is none of the
+    /// device's. Whether it fits together is for the events to ask.
     pub fn from_record(record: &Record) -> Option<Device> {
         let device = Device {
             identity: Identity {

@@ -1,6 +1,7 @@
-//! SCSI: the commands of the one logical unit, their sense and their replies (§ Commands; document 02, A1 and A12).
+//! SCSI: the commands of the one logical unit, their sense and replies (§ Commands; document 02, A1, A2 and A12).
 
-use crate::device::BLOCK;
+use crate::device::{Identity, BLOCK};
+use crate::pages::Page;
 
 /// Sense key, additional sense code and its qualifier.
 #[derive(Clone, Copy, Debug, PartialEq, Eq)]
@@ -40,7 +41,10 @@ pub mod code {
 pub enum Reply {
     /// The sense found when Request Sense came: the unit's own is cleared at once.
     Sense(Sense),
+    /// Inquiry's standard data.
     Inquiry,
+    /// Inquiry's product page. The collector number is the device's when the page is sent.
+    Page(Page),
     ModeSense,
     /// Read Capacity of so many blocks.
     Capacity(u32),
@@ -55,17 +59,19 @@ impl Reply {
         match self {
             Reply::Sense(_) => 18,
             Reply::Inquiry => 36,
+            Reply::Page(page) => page.size(),
             Reply::ModeSense => 4,
             Reply::Capacity(_) => 8,
         }
     }
 
     /// Writes the reply's bytes from `place` on, as many as `out` holds.
-    pub fn write(&self, place: usize, out: &mut [u8]) {
+    pub fn write(&self, identity: &Identity, place: usize, out: &mut [u8]) {
         let part = place..place + out.len();
         match *self {
             Reply::Sense(sense) => out.copy_from_slice(&fixed_format(sense)[part]),
             Reply::Inquiry => out.copy_from_slice(&INQUIRY[part]),
+            Reply::Page(page) => out.copy_from_slice(&page.bytes(identity)[part]),
             Reply::ModeSense => out.copy_from_slice(&MODE_SENSE[part]),
             Reply::Capacity(blocks) => out.copy_from_slice(&capacity(blocks)[part]),
         }
@@ -160,10 +166,7 @@ pub fn decide(block: &[u8; 16], found: Sense, blocks: u32) -> Result<Data, Sense
             field(block[1] & 0x01 == 0)?;
             Ok(Data::reply(Reply::Sense(found), block))
         }
-        code::INQUIRY => {
-            field(block[1] & 0x01 == 0 && block[2] == 0)?;
-            Ok(Data::reply(Reply::Inquiry, block))
-        }
+        code::INQUIRY => Ok(Data::reply(inquiry(block)?, block)),
         code::MODE_SENSE => {
             field(block[2] == 0x3F)?;
             Ok(Data::reply(Reply::ModeSense, block))
@@ -190,6 +193,18 @@ pub fn decide(block: &[u8; 16], found: Sense, blocks: u32) -> Result<Data, Sense
         }
         _ => Err(Sense::INVALID_OPERATION_CODE),
     }
+}
+
+/// What Inquiry asks for: a product page if EVPD is set (document 02, A2), else the standard data, which has no page.
+/// The other bits of byte 1 have no meaning.
+fn inquiry(block: &[u8; 16]) -> Result<Reply, Sense> {
+    let evpd = block[1] & 0x01 != 0;
+    let reply = match (evpd, block[2]) {
+        (true, page) => Page::from_code(page).map(Reply::Page),
+        (false, 0) => Some(Reply::Inquiry),
+        (false, _) => None,
+    };
+    reply.ok_or(Sense::INVALID_FIELD)
 }
 
 fn field(good: bool) -> Result<(), Sense> {

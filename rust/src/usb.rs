@@ -78,7 +78,7 @@ pub fn write_descriptor(identity: &Identity, value: u16, length: u16, buffer: &m
         0x0300 => cut(&LANGUAGES, length, buffer),
         0x0301 => cut(&string::<16>(b"COLLECT"), length, buffer),
         0x0302 => cut(&string::<26>(b"METER EXPORT"), length, buffer),
-        _ => cut(&string::<26>(&digits(identity.number)), length, buffer),
+        _ => cut(&string::<26>(&identity.digits()), length, buffer),
     }
 }
 
@@ -105,14 +105,4 @@ fn string<const SIZE: usize>(text: &[u8]) -> [u8; SIZE] {
         unit[0] = letter;
     }
     descriptor
-}
-
-/// Exactly twelve decimal digits, zeros in front.
-fn digits(mut number: u64) -> [u8; 12] {
-    let mut text = [0; 12];
-    for digit in text.iter_mut().rev() {
-        *digit = b'0' + (number % 10) as u8;
-        number /= 10;
-    }
-    text
 }

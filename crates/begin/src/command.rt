@@ -79,6 +79,7 @@ fn reply_of(kind: ReplyKind, unit: LogicalUnit) -> Reply
     match kind {
         ReplyKind::Sense => Reply::Sense(sense),
         ReplyKind::Inquiry => Reply::Inquiry,
+        ReplyKind::Page(page) => Reply::Page(page),
         ReplyKind::ModeSense => Reply::ModeSense,
         ReplyKind::Capacity => Reply::Capacity { blocks },
     }

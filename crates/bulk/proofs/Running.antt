@@ -1,15 +1,17 @@
 -- What a task that fits tells of its numbers. Assumes nothing.
-use Prim.Native.Nat.{ℕ, _+_, _*_, _%_, _≤_, _<_, min}
+use Prim.Native.Nat.{ℕ, _+_, _*_, _-_, _%_, _≤_, _<_, min}
 use mathlib.Core.Path.{_≡_, sym, ap, _∙_}
-use mathlib.Core.Bool.{true}
+use mathlib.Core.Bool.{true, false}
 use mathlib.Core.List.{List}
 use native.Mathlib.Omega.{arith}
 use lib.ListN.{length, take, drop, length-take, length-drop}
 use borrow.Author.Tests.{leb-true, ltb-true, eqb-true, ne-eqb}
+use Rattle.wire.specs.Choice.{if_then_else_}
 use Rattle.wire.specs.Slices.{placed}
 use Rattle.wire.proofs.Cases.{both, if-false}
 use Rattle.scsi.specs.Reply.{replyData}
 use Rattle.scsi.specs.declared.reply.Reply as replies
+use Rattle.scsi.proofs.Replies.{sizes}
 use Rattle.machine.specs.declared.answer.Answer.the-variants.{Data}
 use Rattle.machine.specs.declared.record.Stage.{Stage}
 use Rattle.machine.specs.declared.record.Stage.the-variants.{DataOut, DataIn, ReplyIn}
@@ -17,7 +19,7 @@ use Rattle.machine.specs.declared.record.State.{State}
 use Rattle.machine.specs.declared.record.Device.{Device}
 use Rattle.machine.specs.Fits.{mostBlocks, sizeFits, taskFits, outFits, inFits}
 use Rattle.machine.specs.Outcome.{reacts}
-use Rattle.machine.specs.Bulk.{handedOut, onAsk}
+use Rattle.machine.specs.Bulk.{handedOut, onAsk, inStage, packetIn}
 use Rattle.bulk.specs.Parts.{Sound, Gathering}
 
 pub small : (s : State) (m : List ℕ) → Sound s m → s .unit .blocks ≤ mostBlocks
@@ -55,11 +57,17 @@ sending s m place left w e =
     let a : place + left ≤ 512 * s .unit .blocks = leb-true _ _ (f .0) in
     record { within = omega arith; due = leb-true _ _ (both _ _ (f .1) .0) }
 
-pub replying : (s : State) (m : List ℕ) (r : replies.Reply) (place left : ℕ) → Sound s m → s .link .task .stage ≡ ReplyIn r place left → Sending place left (length (replyData r)) (s .link .task .residue)
+pub replying : (s : State) (m : List ℕ) (n : ℕ) (r : replies.Reply) (place left : ℕ) → Sound s m → s .link .task .stage ≡ ReplyIn r place left → Sending place left (length (replyData n r)) (s .link .task .residue)
 unfolding taskFits outFits inFits
-replying s m r place left w e =
+replying s m n r place left w e =
     let f = both _ _ (at-stage s m (ReplyIn r place left) w e) in
-    record { within = leb-true _ _ (f .0); due = leb-true _ _ (both _ _ (f .1) .0) }
+    record { within = rw (sizes n r) (leb-true _ _ (f .0)); due = leb-true _ _ (both _ _ (f .1) .0) }
+
+-- an ask where a reply is due
+pub at-reply : (d : Device) (m b x : List ℕ) (r : replies.Reply) (place left rest : ℕ) → d .state .link .haltin ≡ false → d .state .link .task .stage ≡ ReplyIn r place left
+    → x ≡ replyData (d .identity .number) r → rest ≡ left - 64 → onAsk d x place left (ReplyIn r (place + 64) rest) b ≡ packetIn d m b
+unfolding packetIn inStage if_then_else_
+at-reply d m b x r place left rest h e f g = rw f (rw g (simp (h, e)))
 
 -- an ask where something is left
 pub asked : (d : Device) (s : List ℕ) (place left n : ℕ) (more : Stage) (b : List ℕ) → (left ≡ 0 → ⊥) → place + left ≤ length s → min 64 left ≡ n → n ≤ left

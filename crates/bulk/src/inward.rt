@@ -21,6 +21,7 @@ use state::progress::after_status;
 use state::progress::halt_at_end;
 use state::progress::next_in;
 use state::states::moved;
+use usb::descriptor::Identity;
 use wire::slices::put;
 use wire::slices::put_packet;
 
@@ -109,9 +110,10 @@ fn on_status(status: Status, state: State, buffer: &mut [u8]) -> Moved
     }
 }
 
-pub(crate) fn packet_in(state: State, medium: &[u8], buffer: &mut [u8]) -> Moved
+// The identity is there for the product pages, which carry the collector number.
+pub(crate) fn packet_in(identity: Identity, state: State, medium: &[u8], buffer: &mut [u8]) -> Moved
     requires { ⌜ (Sound state (now medium)) × (64 ≤ length (now buffer)) ⌝ }
-    ensures { λ r. ⌜ ((i : Identity) (p : List ℕ) → reacts (r .answer) (device i (r .state) p) (now (buffer .exit)) ≡ packetIn (device i state p) (now (medium .entry)) (now (buffer .entry))) ⌝ }
+    ensures { λ r. ⌜ ((p : List ℕ) → reacts (r .answer) (device identity (r .state) p) (now (buffer .exit)) ≡ packetIn (device identity state p) (now (medium .entry)) (now (buffer .entry))) ⌝ }
 {
     let link = state.link;
     let haltin = link.haltin;
@@ -125,19 +127,21 @@ pub(crate) fn packet_in(state: State, medium: &[u8], buffer: &mut [u8]) -> Moved
     }
     match stage {
         Stage::DataIn { place, left } => {
+            let next = place + 64;
             let more = Stage::DataIn {
-                place: place + 64,
+                place: next,
                 left: rest(left),
             };
             on_ask(state, medium, place, left, more, buffer)
         }
         Stage::ReplyIn { reply, place, left } => {
+            let next = place + 64;
             let more = Stage::ReplyIn {
                 reply,
-                place: place + 64,
+                place: next,
                 left: rest(left),
             };
-            let packet = reply_bytes(reply);
+            let packet = reply_bytes(reply, identity.number);
             let bytes = packet.bytes;
             let len = packet.len;
             on_ask(state, &bytes[..len], place, left, more, buffer)

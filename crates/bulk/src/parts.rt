@@ -55,6 +55,6 @@ pub fn in_parts(identity: Identity, state: State, medium: &[u8], buffer: &mut [u
         configured: state.configured,
     }) {
         Gate::Shut(answer) => Moved { answer, state },
-        Gate::Open => packet_in(state, medium, buffer),
+        Gate::Open => packet_in(identity, state, medium, buffer),
     }
 }

@@ -9,6 +9,7 @@ use crate::print::word;
 use scsi::command::Plan;
 use scsi::command::block_length;
 use scsi::command::plan_of;
+use scsi::page::Page;
 use scsi::reply::ReplyKind;
 use scsi::sense::Sense;
 use wire::fields::put_be16;
@@ -24,6 +25,11 @@ fn reply(kind: ReplyKind) {
     match kind {
         ReplyKind::Sense => text(b" sense"),
         ReplyKind::Inquiry => text(b" inquiry"),
+        ReplyKind::Page(page) => match page {
+            Page::Supported => text(b" page 00"),
+            Page::Serial => text(b" page 80"),
+            Page::Identification => text(b" page 83"),
+        },
         ReplyKind::ModeSense => text(b" mode sense"),
         ReplyKind::Capacity => text(b" capacity"),
     }
@@ -127,9 +133,26 @@ fn allocation_lengths() {
     block(0x1A00_3F01_0300_0000, 0x0000);
 }
 
+// Product pages: each whole, page 80 cut by a byte, page 83 of 256, page 00 of none, page 80 with every ignored bit of byte 1 set; a page
+// that is not served, of 255 and of none; byte 2 without EVPD; NACA.
+fn product_pages() {
+    block(0x1201_0000_FF00_0000, 0x0000);
+    block(0x1201_8000_FF00_0000, 0x0000);
+    block(0x1201_8300_FF00_0000, 0x0000);
+    block(0x1201_8000_0F00_0000, 0x0000);
+    block(0x1201_8301_0000_0000, 0x0000);
+    block(0x1201_0000_0000_0000, 0x0000);
+    block(0x12FF_8000_1000_0000, 0x0000);
+    block(0x1201_8100_FF00_0000, 0x0000);
+    block(0x1201_8100_0000_0000, 0x0000);
+    block(0x1200_8000_FF00_0000, 0x0000);
+    block(0x1201_8000_FF04_0000, 0x0000);
+}
+
 pub(crate) fn run() {
     ranges();
     others();
     control_bytes();
     allocation_lengths();
+    product_pages();
 }

@@ -2,25 +2,29 @@
 use Prim.Native.Nat.{ℕ, _+_, _*_, _/_, _%_, _^_, _≤_, _<_}
 use mathlib.Core.Path.{_≡_, refl, sym, ap}
 use mathlib.Core.Bool.{Bool, true, false}
-use mathlib.Core.List.{List, [], _∷_}
 use native.Mathlib.Omega.{arith}
 use lib.Dec.{eqb, ltb}
 use borrow.Author.Tests.{eqb-true, eqb-false, le-leb, leb-true, lt-ltb, ltb-true}
-use Rattle.wire.specs.Choice.{if_then_else_, _and_, Row, look}
+use Rattle.wire.specs.Choice.{if_then_else_, _and_, look}
 use Rattle.wire.specs.Bits.{bits}
 use Rattle.wire.specs.Numbers.{value}
-use Rattle.wire.proofs.Cases.{both, and-true, by-if}
+use Rattle.wire.proofs.Cases.{both, and-true, by-if, look-keyed}
 use Rattle.scsi.specs.Sense.{IsSense}
 use Rattle.scsi.specs.declared.sense.Sense.{Sense}
 use Rattle.scsi.specs.declared.reply.Reply.the-variants as reply
+use Rattle.scsi.specs.declared.page.Listed.{Listed}
+use Rattle.scsi.specs.declared.page.Listed.the-variants.{Missing, Found}
+use Rattle.scsi.specs.Page.{pageOf}
+use Rattle.scsi.proofs.Pages.{code-found, CodeIs, found-code}
 use Rattle.bot.specs.declared.csw.Status.the-variants.{Passed, Failed, PhaseError}
 use Rattle.machine.specs.declared.record.Stage.{Stage}
 use Rattle.machine.specs.declared.record.Stage.the-variants.{Ready, DataOut, DataIn, ReplyIn, StatusDue}
 use Rattle.machine.specs.declared.record.State.{State}
 use Rattle.machine.specs.Record.{task, link, state}
 use Rattle.crecord.specs.declared.record.Flat as flats
-use Rattle.crecord.specs.Flat.{senseNumber, senseFrom, Form, noNumbers, forms, noForm, formOf, flag, decodes, stateFrom}
-use Rattle.crecord.specs.Flat.{Numbers, numbersOf, worth, flagsOf, flatWith, flatOf}
+use Rattle.crecord.specs.Flat.{senseNumber, senseFrom, isFound, pageStage, Form, noNumbers, forms, noForm, formOf, flag, decodes, stateFrom}
+use Rattle.crecord.specs.Flat.{numbers, numbersOf, worth, flagsOf, flatWith, flatOf}
+use Rattle.crecord.specs.declared.encode.Numbers.{Numbers}
 use Rattle.crecord.specs.Claims.{IsState, RoundTrip}
 
 -- ---- the flags
@@ -118,29 +122,16 @@ stage-back (ReplyIn (reply.Sense s) place left) ok =
 stage-back (ReplyIn reply.Inquiry place left) ok = (refl, refl)
 stage-back (ReplyIn reply.ModeSense place left) ok = (refl, refl)
 stage-back (ReplyIn (reply.Capacity n) place left) ok = (refl, refl)
+stage-back (ReplyIn (reply.Page p) place left) ok = (ap isFound (code-found p), ap (λ (x : Listed). pageStage x place left) (code-found p))
 stage-back (StatusDue Passed) ok = (refl, refl)
 stage-back (StatusDue Failed) ok = (refl, refl)
 stage-back (StatusDue PhaseError) ok = (refl, refl)
-
--- what holds of each row's entry where the number is its key, and of the other value, holds of what is found
-abbrev Keyed : {A : Type 0} → (A → Type 0) → ℕ → List (Row A) → Type 0
-Keyed P x [] = Unit {0}
-Keyed P x (r ∷ rs) = (x ≡ r .key → P (r .entry)) × Keyed P x rs
-
-look-keyed : {A : Type 0} (P : A → Type 0) (rs : List (Row A)) (x : ℕ) (other : A) → Keyed P x rs → P other → P (look rs x other)
-unfolding look
-look-keyed P [] x other h o = o
-look-keyed P (r ∷ rs) x other h o =
-    by-if P (eqb x (r .key)) (r .entry) (look rs x other) (λ e. h .0 (eqb-true _ _ e)) (λ _. look-keyed P rs x other (h .1) o)
-
-abbrev numbers : ℕ → ℕ → ℕ → ℕ → Numbers
-numbers n p l v = record { stage = n; place = p; left = l; value = v }
 
 stage-again : (n p l v : ℕ) → formOf n .has p l v ≡ true → numbersOf (formOf n .stage p l v) ≡ numbers n p l v
 unfolding formOf numbersOf noNumbers
 stage-again n p l v =
     look-keyed P forms n noForm
-    (no-transfer, (whole, (no-value, (sense, (no-value, (no-value, (whole, (no-transfer, (no-transfer, (no-transfer, tt))))))))))
+    (no-transfer, (whole, (no-value, (sense, (no-value, (no-value, (whole, (no-transfer, (no-transfer, (no-transfer, (page, tt)))))))))))
     (λ h. let z : _≡_ {A = ℕ} 0 1 = cc in absurd (omega arith))
   where
     P : Form → Type 0
@@ -157,6 +148,13 @@ stage-again n p l v =
 
     sense : n ≡ 3 → ltb v (256 ^ 3) ≡ true → numbers 3 p l (senseNumber (senseFrom v)) ≡ numbers n p l v
     sense e h = at e (sense-again v (ltb-true _ _ h))
+
+    page : n ≡ 10 → isFound (pageOf v) ≡ true → numbersOf (pageStage (pageOf v) p l) ≡ numbers n p l v
+    page e = pages (pageOf v) (found-code v)
+      where
+        pages : (x : Listed) → CodeIs v x → isFound x ≡ true → numbersOf (pageStage x p l) ≡ numbers n p l v
+        pages Missing c h = let z : _≡_ {A = ℕ} 0 1 = cc in absurd (omega arith)
+        pages (Found q) c h = at e c
 
     no-transfer : {k : ℕ} → n ≡ k → noNumbers p l v ≡ true → numbers k 0 0 0 ≡ numbers n p l v
     no-transfer e h =

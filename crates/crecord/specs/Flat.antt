@@ -8,6 +8,9 @@ use Rattle.wire.specs.Bits.{bits}
 use Rattle.wire.specs.Numbers.{little}
 use Rattle.scsi.specs.declared.sense.Sense.{Sense}
 use Rattle.scsi.specs.declared.reply.Reply.the-variants as reply
+use Rattle.scsi.specs.declared.page.Listed.{Listed}
+use Rattle.scsi.specs.declared.page.Listed.the-variants.{Missing, Found}
+use Rattle.scsi.specs.Page.{pageCode, pageOf}
 use Rattle.bot.specs.declared.csw.Status.the-variants.{Passed, Failed, PhaseError}
 use Rattle.usb.specs.declared.descriptor.Identity.{Identity}
 use Rattle.machine.specs.declared.record.Stage.{Stage}
@@ -19,6 +22,7 @@ use Rattle.crecord.specs.declared.record.Given.{Given}
 use Rattle.crecord.specs.declared.record.Flat as flats
 use Rattle.crecord.specs.declared.record.Record.{Record}
 use Rattle.crecord.specs.declared.record.Told as tolds
+use Rattle.crecord.specs.declared.encode.Numbers.{Numbers}
 
 -- ---- the stage: a number, and what place, left and value mean under it
 
@@ -28,6 +32,15 @@ senseNumber s = little (s .key ∷ s .asc ∷ s .ascq ∷ [])
 
 unfoldable pub senseFrom : ℕ → Sense
 senseFrom v = record { key = v % 256; asc = v / 256 % 256; ascq = v / 256 ^ 2 % 256 }
+
+-- A page is known by its code.
+abbrev pub isFound : Listed → Bool
+isFound Missing = false
+isFound (Found p) = true
+
+abbrev pub pageStage : Listed → ℕ → ℕ → Stage
+pageStage Missing place left = Ready
+pageStage (Found p) place left = ReplyIn (reply.Page p) place left
 
 -- Of a stage's number: which place, left and value stand for something, and for which stage.
 pub record Form : Type 0 where
@@ -53,6 +66,7 @@ forms =
     ∷ row 7 (form noNumbers (λ place left value. StatusDue Passed))
     ∷ row 8 (form noNumbers (λ place left value. StatusDue Failed))
     ∷ row 9 (form noNumbers (λ place left value. StatusDue PhaseError))
+    ∷ row 10 (form (λ place left value. isFound (pageOf value)) (λ place left value. pageStage (pageOf value) place left))
     ∷ []
 
 abbrev pub noForm : Form
@@ -82,13 +96,7 @@ identityFrom g = record { number = g .number; vendor = g .vendor; product = g .p
 
 -- ---- writing
 
-pub record Numbers : Type 0 where
-  pub stage : ℕ
-  pub place : ℕ
-  pub left : ℕ
-  pub value : ℕ
-
-abbrev numbers : ℕ → ℕ → ℕ → ℕ → Numbers
+abbrev pub numbers : ℕ → ℕ → ℕ → ℕ → Numbers
 numbers n p l v = record { stage = n; place = p; left = l; value = v }
 
 unfoldable pub numbersOf : Stage → Numbers
@@ -99,6 +107,7 @@ numbersOf (ReplyIn (reply.Sense s) place left) = numbers 3 place left (senseNumb
 numbersOf (ReplyIn reply.Inquiry place left) = numbers 4 place left 0
 numbersOf (ReplyIn reply.ModeSense place left) = numbers 5 place left 0
 numbersOf (ReplyIn (reply.Capacity n) place left) = numbers 6 place left n
+numbersOf (ReplyIn (reply.Page p) place left) = numbers 10 place left (pageCode p)
 numbersOf (StatusDue Passed) = numbers 7 0 0 0
 numbersOf (StatusDue Failed) = numbers 8 0 0 0
 numbersOf (StatusDue PhaseError) = numbers 9 0 0 0

@@ -1,6 +1,7 @@
 // From the numbers that C holds to the device's state.
 ghost use mathlib.Core.Path.{_≡_};
-ghost use Rattle.crecord.specs.Flat.{noNumbers, formOf, decodes, senseFrom, stateFrom, identityFrom};
+ghost use Rattle.scsi.specs.Page.{pageOf};
+ghost use Rattle.crecord.specs.Flat.{noNumbers, formOf, isFound, pageStage, decodes, senseFrom, stateFrom, identityFrom};
 use crate::record::Flat;
 use crate::record::Given;
 use bot::csw::Status;
@@ -9,6 +10,8 @@ use machine::record::LogicalUnit;
 use machine::record::Stage;
 use machine::record::State;
 use machine::record::Task;
+use scsi::page::Listed;
+use scsi::page::page_of;
 use scsi::reply::Reply;
 use scsi::sense::Sense;
 use usb::descriptor::Identity;
@@ -24,6 +27,29 @@ fn no_numbers(place: u32, left: u32, value: u32) -> bool
         return false;
     }
     value == 0
+}
+
+// A page is known by its code.
+fn is_page(code: u32) -> bool
+    ensures { λ r. ⌜ r ≡ isFound (pageOf code) ⌝ }
+{
+    match page_of(code) {
+        Listed::Missing => false,
+        Listed::Found(_) => true,
+    }
+}
+
+fn page_stage(code: u32, place: u32, left: u32) -> Stage
+    ensures { λ r. ⌜ r ≡ pageStage (pageOf code) place left ⌝ }
+{
+    match page_of(code) {
+        Listed::Missing => Stage::Ready,
+        Listed::Found(page) => Stage::ReplyIn {
+            reply: Reply::Page(page),
+            place,
+            left,
+        },
+    }
 }
 
 fn stage_decodes(flat: Flat) -> bool
@@ -44,6 +70,7 @@ fn stage_decodes(flat: Flat) -> bool
         7 => no_numbers(place, left, value),
         8 => no_numbers(place, left, value),
         9 => no_numbers(place, left, value),
+        10 => is_page(value),
         _ => false,
     }
 }
@@ -113,6 +140,7 @@ fn stage_from(flat: Flat) -> Stage
         9 => Stage::StatusDue {
             status: Status::PhaseError,
         },
+        10 => page_stage(value, place, left),
         _ => Stage::Ready,
     }
 }

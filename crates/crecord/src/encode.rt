@@ -1,7 +1,7 @@
 // From the device's state and answers to the numbers that C holds.
 ghost use mathlib.Core.Path.{_≡_};
 ghost use Rattle.machine.specs.Answer.{refusalNumber, numberOf, countOf};
-ghost use Rattle.crecord.specs.Flat.{senseNumber, worth, flagsOf, flatWith, flatOf, givenOf, answer};
+ghost use Rattle.crecord.specs.Flat.{senseNumber, worth, flagsOf, numbers, numbersOf, flatOf, givenOf, answer};
 use crate::record::Flat;
 use crate::record::Given;
 use crate::record::Told;
@@ -10,6 +10,7 @@ use machine::answer::Answer;
 use machine::answer::Refusal;
 use machine::record::Stage;
 use machine::record::State;
+use scsi::page::page_code;
 use scsi::reply::Reply;
 use scsi::sense::Sense;
 use usb::descriptor::Identity;
@@ -39,53 +40,71 @@ fn flags_of(state: State) -> u8
         + worth(link.locked, 8)
 }
 
-// The stage comes as its number and the three that it gives a meaning.
-fn flat_with(state: State, stage: u8, place: u32, left: u32, value: u32) -> Flat
-    ensures { λ r. ⌜ r ≡ flatWith state (record { stage = stage; place = place; left = left; value = value }) ⌝ }
+// A stage's number, and the three that it gives a meaning.
+pub struct Numbers {
+    pub stage: u8,
+    pub place: u32,
+    pub left: u32,
+    pub value: u32,
+}
+
+fn numbered(stage: u8, place: u32, left: u32, value: u32) -> Numbers
+    ensures { λ r. ⌜ r ≡ numbers stage place left value ⌝ }
 {
-    let unit = state.unit;
-    let link = state.link;
-    let sense = unit.sense;
-    let task = link.task;
-    let flags = flags_of(state);
-    Flat {
-        residue: task.residue,
+    Numbers {
+        stage,
         place,
         left,
         value,
-        tag: task.tag,
-        announced: task.announced,
-        blocks: unit.blocks,
-        stage,
-        flags,
-        address: state.address,
-        key: sense.key,
-        asc: sense.asc,
-        ascq: sense.ascq,
+    }
+}
+
+fn numbers_of(stage: Stage) -> Numbers
+    ensures { λ r. ⌜ r ≡ numbersOf stage ⌝ }
+{
+    match stage {
+        Stage::Ready => numbered(0, 0, 0, 0),
+        Stage::DataOut { block, left, held } => numbered(1, block, left, held),
+        Stage::DataIn { place, left } => numbered(2, place, left, 0),
+        Stage::ReplyIn { reply, place, left } => match reply {
+            Reply::Sense(sense) => numbered(3, place, left, sense_number(sense)),
+            Reply::Inquiry => numbered(4, place, left, 0),
+            Reply::ModeSense => numbered(5, place, left, 0),
+            Reply::Capacity { blocks } => numbered(6, place, left, blocks),
+            Reply::Page(page) => numbered(10, place, left, page_code(page)),
+        },
+        Stage::StatusDue { status } => match status {
+            Status::Passed => numbered(7, 0, 0, 0),
+            Status::Failed => numbered(8, 0, 0, 0),
+            Status::PhaseError => numbered(9, 0, 0, 0),
+        },
     }
 }
 
 pub fn flat_of(state: State) -> Flat
     ensures { λ r. ⌜ r ≡ flatOf state ⌝ }
 {
+    let unit = state.unit;
     let link = state.link;
+    let sense = unit.sense;
     let task = link.task;
     let stage = task.stage;
-    match stage {
-        Stage::Ready => flat_with(state, 0, 0, 0, 0),
-        Stage::DataOut { block, left, held } => flat_with(state, 1, block, left, held),
-        Stage::DataIn { place, left } => flat_with(state, 2, place, left, 0),
-        Stage::ReplyIn { reply, place, left } => match reply {
-            Reply::Sense(sense) => flat_with(state, 3, place, left, sense_number(sense)),
-            Reply::Inquiry => flat_with(state, 4, place, left, 0),
-            Reply::ModeSense => flat_with(state, 5, place, left, 0),
-            Reply::Capacity { blocks } => flat_with(state, 6, place, left, blocks),
-        },
-        Stage::StatusDue { status } => match status {
-            Status::Passed => flat_with(state, 7, 0, 0, 0),
-            Status::Failed => flat_with(state, 8, 0, 0, 0),
-            Status::PhaseError => flat_with(state, 9, 0, 0, 0),
-        },
+    let flags = flags_of(state);
+    let numbers = numbers_of(stage);
+    Flat {
+        residue: task.residue,
+        place: numbers.place,
+        left: numbers.left,
+        value: numbers.value,
+        tag: task.tag,
+        announced: task.announced,
+        blocks: unit.blocks,
+        stage: numbers.stage,
+        flags,
+        address: state.address,
+        key: sense.key,
+        asc: sense.asc,
+        ascq: sense.ascq,
     }
 }
 

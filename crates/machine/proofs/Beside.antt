@@ -68,7 +68,7 @@ unfolding run answers
 three-acks d m e f g d₁ d₂ d₃ x y z e₁ e₂ e₃ = rw (e₁, e₂, e₃)
 
 -- what an event leaves fits again
-fits-after : (d d′ : Device) (m b : List ℕ) (e : Event) → fits (d .identity) (d .state) ≡ true → step d m e ≡ out Ack d′ m b → fits (d′ .identity) (d′ .state) ≡ true
+pub fits-after : (d d′ : Device) (m b : List ℕ) (e : Event) → fits (d .identity) (d .state) ≡ true → step d m e ≡ out Ack d′ m b → fits (d′ .identity) (d′ .state) ≡ true
 fits-after d d′ m b e f h = fits-of _ _ (subst (λ (o : Out). Fine (o .dev)) h (stays-fit d m (fit-of _ _ f) e))
 
 recovers : (d : Device) (m : List ℕ) → fits (d .identity) (d .state) ≡ true → d .state .configured ≡ true
@@ -95,7 +95,7 @@ can-recover k ok es c order x y z hx hy hz =
 -- ---- where a wrapper is due, exactly
 
 -- a bulk-out packet whose checks pass
-out-passed : (d : Device) (m p : List ℕ) → fits (d .identity) (d .state) ≡ true → length m ≡ 512 * d .state .unit .blocks → length p ≤ 64 → d .state .configured ≡ true
+pub out-passed : (d : Device) (m p : List ℕ) → fits (d .identity) (d .state) ≡ true → length m ≡ 512 * d .state .unit .blocks → length p ≤ 64 → d .state .configured ≡ true
     → step d m (bulkOut p) ≡ unlent (packetOut d m p)
 unfolding step onBulkOut checks check where-lent judgedOut if_then_else_ inOrder
 out-passed d m p f n h c = simp (f, eq-eqb (length m) (512 * d .state .unit .blocks) n, le-leb (length p) 64 h, c)

@@ -7,4 +7,4 @@ use Rattle.machine.proofs.Compute.{computes}
 
 pub largest : Largest
 unfolding computes onBlocks
-largest = record { served = refl; unserved = refl; capacity = refl; last = refl; end = refl; past = refl; wraps = refl; places = omega arith }
+largest = record { served = refl; unserved = refl; capacity = λ n. refl; last = refl; end = refl; past = refl; wraps = refl; places = omega arith }

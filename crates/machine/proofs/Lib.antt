@@ -12,6 +12,7 @@ pub mod Demand
 pub mod Reach
 pub mod Halts
 pub mod Largest
+pub mod Sent
 pub mod StepLaws
 pub mod Beside
 pub mod Compute

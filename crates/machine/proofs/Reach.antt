@@ -1,6 +1,6 @@
 -- Every record reached from a fresh one fits together. Assumes nothing.
 use Prim.Native.Nat.{ℕ, _+_, _*_, _-_, _≤_, _<_, _%_, min}
-use mathlib.Core.Path.{_≡_, refl, sym, _∙_, subst}
+use mathlib.Core.Path.{_≡_, refl, sym, ap, _∙_, subst}
 use mathlib.Core.Bool.{Bool, true, false, not, true≢false}
 use mathlib.Core.List.{List, []}
 use native.Mathlib.Omega.{arith}
@@ -9,15 +9,13 @@ use lib.ListN.{length, drop}
 use borrow.Author.Tests.{leb-true, leb-false, ltb-true, eqb-true, eqb-false, le-leb, lt-ltb, eq-eqb}
 use Rattle.wire.specs.Choice.{if_then_else_, _and_}
 use Rattle.wire.proofs.Cases.{both, and-true, by-if, if-true, if-false}
-use Rattle.scsi.specs.Reply.{replyData}
+use Rattle.scsi.specs.Reply.{kindOf, replySize}
 use Rattle.scsi.specs.Sense.{isNoSense}
 use Rattle.scsi.specs.declared.command.Plan.{Plan}
 use Rattle.scsi.specs.declared.command.Plan.the-variants.{Failed, Nothing, Reply, Read, Write}
 use Rattle.scsi.specs.declared.reply.ReplyKind.{ReplyKind}
 use Rattle.scsi.specs.declared.reply.ReplyKind.the-variants as kind
 use Rattle.scsi.specs.declared.sense.Sense.{Sense}
-use Rattle.scsi.specs.declared.reply.Reply.the-variants as reply
-use Rattle.scsi.proofs.Replies.{replySize, reply-length}
 use Rattle.scsi.proofs.Plans.{PlanFits, plan-fits}
 use Rattle.cases.specs.Cases.{caseOf}
 use Rattle.cases.specs.declared.Transfer.{Transfer}
@@ -81,13 +79,14 @@ fits-of i s f = and-true _ _ (f .size) (and-true _ _ (f .number) (and-true _ _ (
 
 -- ---- the first stage of a command
 
--- the length of a reply, whatever was found
-size-of : (k : ReplyKind) (u : LogicalUnit) → length (replyData (replyOf k u)) ≡ replySize k
+-- a reply is of the kind that was asked for, whatever was found
+pub same-kind : (k : ReplyKind) (u : LogicalUnit) → kindOf (replyOf k u) ≡ k
 unfolding replyOf
-size-of kind.Sense u = reply-length (reply.Sense (u .sense))
-size-of kind.Inquiry u = reply-length reply.Inquiry
-size-of kind.ModeSense u = reply-length reply.ModeSense
-size-of kind.Capacity u = reply-length (reply.Capacity (u .blocks))
+same-kind kind.Sense u = refl
+same-kind kind.Inquiry u = refl
+same-kind (kind.Page p) u = refl
+same-kind kind.ModeSense u = refl
+same-kind kind.Capacity u = refl
 
 same-le : (n : ℕ) → leb n n ≡ true
 same-le n = le-leb n n (omega arith)
@@ -97,8 +96,8 @@ unfolding taskFits dataStage hasOf outFits inFits
 data-fits (Failed s) u a f h = same-le a
 data-fits Nothing u a f h = same-le a
 data-fits (Reply k n) u a f h =
-    let z = size-of k u in
-    and-true _ _ (le-leb (0 + n) (length (replyData (replyOf k u))) (omega arith)) (and-true _ _ (le-leb n a h) (same-le a))
+    let z = ap replySize (same-kind k u) in
+    and-true _ _ (le-leb (0 + n) (replySize (kindOf (replyOf k u))) (omega arith)) (and-true _ _ (le-leb n a h) (same-le a))
 data-fits (Read block count) u a f h =
     and-true _ _ (le-leb (512 * block + 512 * count) (512 * u .blocks) (omega arith)) (and-true _ _ (le-leb (512 * count) a h) (same-le a))
 data-fits (Write block count) u a f h =

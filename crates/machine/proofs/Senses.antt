@@ -48,6 +48,7 @@ use Rattle.machine.proofs.Requests.{Did, answered, changed, drops, perf
 abbrev ReplySense : replies.Reply → Type 0
 ReplySense (reply.Sense s) = IsSense s
 ReplySense reply.Inquiry = Unit {0}
+ReplySense (reply.Page p) = Unit {0}
 ReplySense reply.ModeSense = Unit {0}
 ReplySense (reply.Capacity n) = Unit {0}
 
@@ -76,6 +77,7 @@ reply-sense : (k : ReplyKind) (u : LogicalUnit) → IsSense (u .sense) → Reply
 unfolding replyOf
 reply-sense kind.Sense u h = h
 reply-sense kind.Inquiry u h = tt
+reply-sense (kind.Page p) u h = tt
 reply-sense kind.ModeSense u h = tt
 reply-sense kind.Capacity u h = tt
 

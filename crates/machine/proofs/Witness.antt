@@ -1,7 +1,8 @@
--- The closed runs that meet the premises of demand 3, computed by the checker. Assumes nothing.
+-- The closed runs of specs/Witness.antt, computed by the checker. Assumes nothing.
 use mathlib.Core.Path.{refl}
+use native.Mathlib.Omega.{arith}
 use Rattle.machine.specs.Sheet.{cbw, testUnitReady, onBlocks}
-use Rattle.machine.specs.Witness.{partWrite, WriteCut, test, tries, LockRecovered}
+use Rattle.machine.specs.Witness.{partWrite, WriteCut, test, tries, LockRecovered, askPage, PageCut}
 use Rattle.machine.proofs.Compute.{computes}
 
 pub write-cut : WriteCut
@@ -11,3 +12,20 @@ write-cut = record { makes = refl; acked = refl; configured = refl; held = refl;
 pub lock-recovered : LockRecovered
 unfolding computes cbw testUnitReady test tries
 lock-recovered = record { due = (test, refl, refl); unaccepted = refl; unrefused = refl; undropped = refl; replies = refl }
+
+pub page-cut : PageCut
+unfolding computes cbw askPage
+page-cut = record {
+  asks = record {
+    fit = refl;
+    medium = refl;
+    due = record { configured = refl; unhalted = refl; ready = refl };
+    haltin = refl;
+    accepts = refl;
+    plan = refl;
+    inward = refl;
+    some = omega arith;
+    room = omega arith;
+  };
+  sent = refl;
+}

@@ -60,6 +60,7 @@ ownStatus (Write block count) = status.Passed
 unfoldable pub replyOf : ReplyKind → LogicalUnit → replies.Reply
 replyOf kind.Sense u = reply.Sense (u .sense)
 replyOf kind.Inquiry u = reply.Inquiry
+replyOf (kind.Page p) u = reply.Page p
 replyOf kind.ModeSense u = reply.ModeSense
 replyOf kind.Capacity u = reply.Capacity (u .blocks)
 

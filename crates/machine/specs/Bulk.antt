@@ -128,7 +128,7 @@ unfoldable pub inStage : Stage → Device → List ℕ → List ℕ → Reaction
 inStage Ready d m b = reacts Nak d b
 inStage (DataOut block left held) d m b = reacts Nak d b
 inStage (DataIn place left) d m b = onAsk d m place left (DataIn (place + packetSize) (left - packetSize)) b
-inStage (ReplyIn reply place left) d m b = onAsk d (replyData reply) place left (ReplyIn reply (place + packetSize) (left - packetSize)) b
+inStage (ReplyIn reply place left) d m b = onAsk d (replyData (d .identity .number) reply) place left (ReplyIn reply (place + packetSize) (left - packetSize)) b
 inStage (StatusDue status) d m b = onStatus status d b
 
 unfoldable pub packetIn : Device → List ℕ → List ℕ → Reaction

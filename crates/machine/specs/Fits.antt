@@ -2,10 +2,9 @@
 use Prim.Native.Nat.{ℕ, _+_, _*_, _%_}
 use mathlib.Core.Bool.{Bool, true, false, not}
 use lib.Dec.{leb, ltb, eqb}
-use lib.ListN.{length}
 use Rattle.wire.specs.Choice.{if_then_else_, _and_}
 use Rattle.scsi.specs.Sense.{isNoSense}
-use Rattle.scsi.specs.Reply.{replyData}
+use Rattle.scsi.specs.Reply.{kindOf, replySize}
 use Rattle.usb.specs.declared.descriptor.Identity.{Identity}
 use Rattle.machine.specs.declared.record.Stage.{Stage}
 use Rattle.machine.specs.declared.record.Stage.the-variants.{Ready, DataOut, DataIn, ReplyIn, StatusDue}
@@ -69,7 +68,7 @@ unfoldable pub taskFits : ℕ → Stage → ℕ → ℕ → Bool
 taskFits blocks Ready announced residue = true
 taskFits blocks (DataOut block left held) announced residue = outFits blocks block left held announced residue
 taskFits blocks (DataIn place left) announced residue = inFits (blockSize * blocks) place left announced residue
-taskFits blocks (ReplyIn reply place left) announced residue = inFits (length (replyData reply)) place left announced residue
+taskFits blocks (ReplyIn reply place left) announced residue = inFits (replySize (kindOf reply)) place left announced residue
 taskFits blocks (StatusDue status) announced residue = leb residue announced
 
 unfoldable pub fits : Identity → State → Bool

@@ -1,5 +1,5 @@
 -- The largest medium (document 02, A5). Proved in proofs/Largest.antt.
-use Prim.Native.Nat.{_+_, _*_, _≤_}
+use Prim.Native.Nat.{ℕ, _+_, _*_, _≤_}
 use mathlib.Core.Path.{_≡_}
 use mathlib.Core.Bool.{true, false}
 use mathlib.Core.List.{[], _∷_}
@@ -17,7 +17,7 @@ pub record Largest : Type 0 where
   pub served : sizeFits mostBlocks ≡ true
   pub unserved : sizeFits (mostBlocks + 1) ≡ false
   -- "Read Capacity of the largest medium answers 00 0F FF FF 00 00 02 00"
-  pub capacity : replyData (Capacity mostBlocks) ≡ (0x00 ∷ 0x0F ∷ 0xFF ∷ 0xFF ∷ 0x00 ∷ 0x00 ∷ 0x02 ∷ 0x00 ∷ [])
+  pub capacity : (number : ℕ) → replyData number (Capacity mostBlocks) ≡ (0x00 ∷ 0x0F ∷ 0xFF ∷ 0xFF ∷ 0x00 ∷ 0x00 ∷ 0x02 ∷ 0x00 ∷ [])
   -- The last block, and the blocks past it; "address plus count still must not wrap".
   pub last : planOf (onBlocks 0x28 0x000F_FFFF 1) mostBlocks ≡ Read 0x000F_FFFF 1
   pub end : planOf (onBlocks 0x28 0x0010_0000 0) mostBlocks ≡ Read 0x0010_0000 0

@@ -13,5 +13,6 @@ pub mod Claim
 pub mod Beside
 pub mod Halts
 pub mod Largest
+pub mod Sent
 pub mod Sheet
 pub mod Witness

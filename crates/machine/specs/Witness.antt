@@ -1,10 +1,12 @@
--- Closed runs in which the premises of demand 3 are met. Proved in proofs/Witness.antt.
+-- Closed runs in which the premises of demand 3, and of the claim on cut replies, are met. Proved in proofs/Witness.antt.
 use Prim.Native.Nat.{ℕ}
 use mathlib.Core.Path.{_≡_}
 use mathlib.Core.Bool.{true, false}
 use mathlib.Core.List.{List, [], _∷_, _++_}
 use lib.ListN.{take, replicate}
 use Rattle.wire.specs.Slices.{zeros}
+use Rattle.scsi.specs.declared.page.Page.the-variants.{Serial}
+use Rattle.scsi.specs.declared.reply.ReplyKind.the-variants.{Page}
 use Rattle.machine.specs.declared.record.Device.{Device}
 use Rattle.machine.specs.declared.answer.Answer.the-variants.{Ack, Stall}
 use Rattle.machine.specs.Wrapper.{accepted}
@@ -13,6 +15,7 @@ use Rattle.machine.specs.Machine.{Event, control, bulkOut, bulkIn, step,
 use Rattle.machine.specs.Tally.{Making, writing}
 use Rattle.machine.specs.Claim.{answers, lived, history, setup, recovery, settingUp, WrapperDue, isRefusal, watched}
 use Rattle.machine.specs.Sheet.{cbw, testUnitReady, onBlocks, buffer}
+use Rattle.machine.specs.Sent.{whole, first, Asks}
 
 -- A collector of two blocks of zeros.
 abbrev pub two : Making
@@ -74,3 +77,13 @@ pub record LockRecovered : Type 0 where
   pub undropped : watched tries (answers (run after (zeros 1024) tries .replies)) .ended ≡ false
   pub replies : answers (run before (zeros 1024) (bulkOut broken ∷ tries ++ recover ++ bulkOut test ∷ []) .replies)
       ≡ (Stall ∷ Stall ∷ Stall ∷ Ack ∷ Ack ∷ Stall ∷ Stall ∷ Ack ∷ Ack ∷ Ack ∷ Ack ∷ [])
+
+-- ---- a page that is cut
+
+-- Five bytes of page 80 are allocated, and its sixteen announced.
+unfoldable pub askPage : List ℕ
+askPage = cbw 1 16 0x80 0 (0x12 ∷ 0x01 ∷ 0x80 ∷ 0x00 ∷ 0x05 ∷ 0x00 ∷ [])
+
+pub record PageCut : Type 0 where
+  pub asks : Asks before (zeros 1024) askPage (Page Serial) 5
+  pub sent : first 5 (whole before (Page Serial)) ≡ (0x00 ∷ 0x80 ∷ 0x00 ∷ 0x0C ∷ 0x30 ∷ [])

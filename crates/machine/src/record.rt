@@ -21,7 +21,8 @@ pub enum Stage {
     DataOut { block: u32, left: u32, held: u32 },
     // Bytes of the medium are due to the host: from where, and how many.
     DataIn { place: u32, left: u32 },
-    // Bytes of a reply are due to the host; the reply has the values found at the wrapper.
+    // Bytes of a reply are due to the host; the reply has the values found at the wrapper. A page has none: its digits are
+    // the identity's, which never changes.
     ReplyIn { reply: Reply, place: u32, left: u32 },
     // The status wrapper is due.
     StatusDue { status: Status },

@@ -1,12 +1,13 @@
--- What a plan goes by and what it never passes: the block's first ten bytes; the unit's blocks and the reply's length. And the plan of a
--- block of zeros. Assumes nothing.
+-- What a plan goes by and what it never passes: the block's first ten bytes; the unit's blocks and the reply's length. And the plans of a
+-- block of zeros and of Inquiry with EVPD set. Assumes nothing.
 use Prim.Native.Nat.{ℕ, _+_, _≤_, _<_}
 use mathlib.Core.Path.{_≡_, refl, sym, ap, _∙_}
-use mathlib.Core.List.{List}
+use mathlib.Core.List.{List, [], _∷_}
 use native.Mathlib.Omega.{arith}
-use lib.Dec.{ltb}
-use borrow.Author.Tests.{leb-true, ltb-true}
-use Rattle.wire.specs.Choice.{if_then_else_}
+use borrow.Author.Tests.{leb-true}
+use Rattle.wire.specs.Choice.{if_then_else_, look}
+use Rattle.wire.specs.Bits.{bits, clear}
+use Rattle.wire.specs.Numbers.{big}
 use Rattle.wire.specs.Slices.{byteAt, bytesAt, zeros}
 use Rattle.wire.proofs.Cases.{by-if, look-all}
 use Rattle.wire.proofs.Lists.{bytes-same}
@@ -14,10 +15,15 @@ use Rattle.scsi.specs.declared.command.Plan.{Plan}
 use Rattle.scsi.specs.declared.command.Plan.the-variants.{Failed, Nothing, Reply, Read, Write}
 use Rattle.scsi.specs.declared.reply.ReplyKind.{ReplyKind}
 use Rattle.scsi.specs.declared.reply.ReplyKind.the-variants as kind
+use Rattle.scsi.specs.declared.page.Listed.{Listed}
+use Rattle.scsi.specs.declared.page.Listed.the-variants.{Missing, Found}
 use Rattle.scsi.specs.Sense.{invalidField}
-use Rattle.scsi.specs.Command.{Command, cut, within, address, count, commands, unknown, commandOf, planBy, controlClear, planOf}
+use Rattle.scsi.specs.Page.{pageCode, pageOf}
+use Rattle.scsi.specs.Claims.{PagesServed}
+use Rattle.scsi.specs.Reply.{replySize}
+use Rattle.scsi.specs.Command.{Command, inquiryAllocation, cut, paged, inquired, within, address, count, commands, unknown, commandOf, planBy, controlClear, planOf}
 use Rattle.scsi.proofs.Compute.{scsi-computes}
-use Rattle.scsi.proofs.Replies.{replySize}
+use Rattle.scsi.proofs.Pages.{code-found}
 
 abbrev pub PlanFits : ℕ → Plan → Type 0
 PlanFits blocks (Failed s) = Unit {0}
@@ -26,9 +32,20 @@ PlanFits blocks (Reply k n) = n ≤ replySize k
 PlanFits blocks (Read block count) = block + count ≤ blocks
 PlanFits blocks (Write block count) = block + count ≤ blocks
 
-cut-fits : (blocks : ℕ) (k : ReplyKind) (size allocated : ℕ) → size ≤ replySize k → PlanFits blocks (cut k size allocated)
+cut-fits : (blocks : ℕ) (k : ReplyKind) (allocated : ℕ) → PlanFits blocks (cut k allocated)
 unfolding cut
-cut-fits blocks k size allocated h = by-if (PlanFits blocks) (ltb allocated size) _ _ (λ e. let l = ltb-true allocated size e in omega arith) (λ _. h)
+cut-fits blocks k allocated = omega arith
+
+paged-fits : (blocks : ℕ) (p : Listed) (allocated : ℕ) → PlanFits blocks (paged p allocated)
+unfolding paged
+paged-fits blocks Missing allocated = tt
+paged-fits blocks (Found p) allocated = cut-fits blocks (kind.Page p) allocated
+
+inquired-fits : (blocks : ℕ) (b : List ℕ) → PlanFits blocks (inquired b)
+unfolding inquired
+inquired-fits blocks b =
+    by-if (PlanFits blocks) _ _ _ (λ _. by-if (PlanFits blocks) _ _ _ (λ _. cut-fits blocks kind.Inquiry _) (λ _. tt))
+    (λ _. paged-fits blocks (pageOf (byteAt b 2)) (inquiryAllocation b))
 
 within-fits : (blocks : ℕ) (b : List ℕ) (p : Plan) → (address b + count b ≤ blocks → PlanFits blocks p) → PlanFits blocks (within blocks b p)
 unfolding within
@@ -43,11 +60,11 @@ every-row code =
     look-all Fitting _ code unknown (
       (λ n b. tt),
       (
-        (λ n b. cut-fits n kind.Sense 18 _ (omega arith)),
+        (λ n b. cut-fits n kind.Sense _),
         (
-          (λ n b. cut-fits n kind.Inquiry 36 _ (omega arith)),
+          (λ n b. inquired-fits n b),
           (
-            (λ n b. cut-fits n kind.ModeSense 4 _ (omega arith)),
+            (λ n b. cut-fits n kind.ModeSense _),
             (
               (λ n b. tt),
               (
@@ -82,7 +99,7 @@ abbrev Fronted : Command → Type 0
 Fronted c = (n : ℕ) (b : List ℕ) → checked c n b ≡ checked c n (bytesAt 10 0 b)
 
 by-front : (code : ℕ) → Fronted (commandOf code)
-unfolding commandOf commands planBy bytesAt cut within
+unfolding commandOf commands planBy bytesAt cut inquired within
 by-front code =
     look-all Fronted _ code unknown (
       (λ n b. refl),
@@ -105,3 +122,16 @@ plan-bytes b b′ n h = plan-front b n ∙ ap (λ (s : List ℕ). planOf s n) (b
 pub test-has-nothing : (blocks : ℕ) → planOf (zeros 16) blocks ≡ Nothing
 unfolding scsi-computes
 test-has-nothing blocks = refl
+
+-- ---- Inquiry with EVPD set
+
+asked : (code hi lo blocks : ℕ) → planOf (0x12 ∷ 0x01 ∷ code ∷ hi ∷ lo ∷ 0x00 ∷ []) blocks ≡ paged (pageOf code) (big (hi ∷ lo ∷ []))
+unfolding planOf controlClear planBy commandOf commands look inquired bytesAt clear bits if_then_else_
+asked code hi lo blocks = refl
+
+pub pages-served : PagesServed
+unfolding paged
+pages-served = record {
+  page = λ p hi lo blocks. asked (pageCode p) hi lo blocks ∙ ap (λ (l : Listed). paged l (big (hi ∷ lo ∷ []))) (code-found p);
+  other = λ code hi lo blocks e. asked code hi lo blocks ∙ ap (λ (l : Listed). paged l (big (hi ∷ lo ∷ []))) e;
+}

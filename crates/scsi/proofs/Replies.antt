@@ -5,46 +5,43 @@ use native.Mathlib.Omega.{arith}
 use lib.ListN.{length}
 use Rattle.wire.specs.Numbers.{low}
 use Rattle.wire.specs.Slices.{byteAt, zeros}
+use Rattle.wire.specs.Texts.{padded}
 use Rattle.scsi.specs.declared.reply.ReplyKind.{ReplyKind}
 use Rattle.scsi.specs.declared.reply.ReplyKind.the-variants as kind
 use Rattle.scsi.specs.declared.reply.Reply.{Reply}
 use Rattle.scsi.specs.declared.reply.Reply.the-variants as reply
-use Rattle.scsi.specs.Reply.{senseData, inquiryData, padded, modeData, capacityData, replyData}
+use Rattle.scsi.specs.declared.page.Page.the-variants as page
+use Rattle.scsi.specs.Page.{pageData}
+use Rattle.scsi.specs.Reply.{senseData, inquiryData, modeData, capacityData, replyData, kindOf, replySize}
+use Rattle.scsi.specs.Claims.{Sizes}
+use Rattle.scsi.proofs.Pages.{page-length}
 
--- the length of each kind of reply
-abbrev pub replySize : ReplyKind → ℕ
-replySize kind.Sense = 18
-replySize kind.Inquiry = 36
-replySize kind.ModeSense = 4
-replySize kind.Capacity = 8
-
-abbrev pub sizeOf : Reply → ℕ
-sizeOf (reply.Sense s) = replySize kind.Sense
-sizeOf reply.Inquiry = replySize kind.Inquiry
-sizeOf reply.ModeSense = replySize kind.ModeSense
-sizeOf (reply.Capacity n) = replySize kind.Capacity
-
-pub reply-length : (r : Reply) → length (replyData r) ≡ sizeOf r
+pub sizes : Sizes
 unfolding senseData inquiryData padded modeData capacityData zeros low
-reply-length (reply.Sense s) = refl
-reply-length reply.Inquiry = refl
-reply-length reply.ModeSense = refl
-reply-length (reply.Capacity n) = refl
+sizes n (reply.Sense s) = refl
+sizes n reply.Inquiry = refl
+sizes n (reply.Page p) = page-length n p
+sizes n reply.ModeSense = refl
+sizes n (reply.Capacity blocks) = refl
 
 -- a reply is at most one packet
-pub reply-short : (r : Reply) → length (replyData r) ≤ 64
-reply-short r = rw (reply-length r) (go r)
-  where
-    go : (r : Reply) → sizeOf r ≤ 64
-    go (reply.Sense s) = omega arith
-    go reply.Inquiry = omega arith
-    go reply.ModeSense = omega arith
-    go (reply.Capacity n) = omega arith
+pub kind-short : (k : ReplyKind) → replySize k ≤ 64
+kind-short kind.Sense = omega arith
+kind-short kind.Inquiry = omega arith
+kind-short (kind.Page page.Supported) = omega arith
+kind-short (kind.Page page.Serial) = omega arith
+kind-short (kind.Page page.Identification) = omega arith
+kind-short kind.ModeSense = omega arith
+kind-short kind.Capacity = omega arith
+
+pub reply-short : (n : ℕ) (r : Reply) → length (replyData n r) ≤ 64
+reply-short n r = rw (sizes n r) (kind-short (kindOf r))
 
 -- 55 hex opens a status wrapper of 13 bytes: no reply of that length or more begins with it
-pub reply-opens : (r : Reply) → 13 ≤ length (replyData r) → byteAt (replyData r) 0 ≡ 0x55 → ⊥
-unfolding senseData inquiryData padded modeData capacityData zeros low
-reply-opens (reply.Sense s) l e = omega arith
-reply-opens reply.Inquiry l e = omega arith
-reply-opens reply.ModeSense l e = omega arith
-reply-opens (reply.Capacity n) l e = omega arith
+pub reply-opens : (n : ℕ) (r : Reply) → 13 ≤ length (replyData n r) → byteAt (replyData n r) 0 ≡ 0x55 → ⊥
+unfolding senseData inquiryData padded modeData capacityData pageData zeros low
+reply-opens n (reply.Sense s) l e = omega arith
+reply-opens n reply.Inquiry l e = omega arith
+reply-opens n (reply.Page p) l e = omega arith
+reply-opens n reply.ModeSense l e = omega arith
+reply-opens n (reply.Capacity blocks) l e = omega arith

@@ -7,8 +7,11 @@ use Rattle.wire.proofs.Cases.{by-if, look-all}
 use Rattle.scsi.specs.declared.command.Plan.{Plan}
 use Rattle.scsi.specs.declared.command.Plan.the-variants.{Failed, Nothing, Reply, Read, Write}
 use Rattle.scsi.specs.declared.reply.ReplyKind.{ReplyKind}
+use Rattle.scsi.specs.declared.page.Listed.{Listed}
+use Rattle.scsi.specs.declared.page.Listed.the-variants.{Missing, Found}
+use Rattle.scsi.specs.Page.{pageOf}
 use Rattle.scsi.specs.Sense.{IsSense, noSense, invalidCode, invalidField, outOfRange, dataPhase}
-use Rattle.scsi.specs.Command.{Command, cut, within, commands, unknown, commandOf, planBy, controlClear, planOf}
+use Rattle.scsi.specs.Command.{Command, inquiryAllocation, cut, paged, inquired, within, commands, unknown, commandOf, planBy, controlClear, planOf}
 
 -- ---- the named ones
 
@@ -42,9 +45,19 @@ Fitting c = (blocks : ℕ) (b : List ℕ) → SenseFits (c .has blocks b)
 none : (n : ℕ) (b : List ℕ) → Unit {0}
 none n b = tt
 
-cuts : (k : ReplyKind) (size : ℕ) (allocated : List ℕ → ℕ) (n : ℕ) (b : List ℕ) → SenseFits (cut k size (allocated b))
+cuts : (k : ReplyKind) (allocated : List ℕ → ℕ) (n : ℕ) (b : List ℕ) → SenseFits (cut k (allocated b))
 unfolding cut
-cuts k size allocated n b = by-if SenseFits _ _ _ (λ _. tt) (λ _. tt)
+cuts k allocated n b = tt
+
+pages : (p : Listed) (allocated : ℕ) → SenseFits (paged p allocated)
+unfolding paged cut
+pages Missing allocated = invalid-field
+pages (Found p) allocated = tt
+
+inquiries : (n : ℕ) (b : List ℕ) → SenseFits (inquired b)
+unfolding inquired cut
+inquiries n b =
+    by-if SenseFits _ _ _ (λ _. by-if SenseFits _ _ _ (λ _. tt) (λ _. invalid-field)) (λ _. pages (pageOf (byteAt b 2)) (inquiryAllocation b))
 
 ranges : (p : List ℕ → Plan) → ((b : List ℕ) → SenseFits (p b)) → (n : ℕ) (b : List ℕ) → SenseFits (within n b (p b))
 unfolding within
@@ -54,7 +67,7 @@ every-row : (code : ℕ) → Fitting (commandOf code)
 unfolding commandOf commands
 every-row code =
     look-all Fitting _ code unknown
-    (none, (cuts _ _ _, (cuts _ _ _, (cuts _ _ _, (none, (none, (ranges _ (λ _. tt), (ranges _ (λ _. tt), (ranges _ (λ _. tt), tt)))))))))
+    (none, (cuts _ _, (inquiries, (cuts _ _, (none, (none, (ranges _ (λ _. tt), (ranges _ (λ _. tt), (ranges _ (λ _. tt), tt)))))))))
     (λ n b. invalid-code)
 
 pub sense-fits : (b : List ℕ) (blocks : ℕ) → SenseFits (planOf b blocks)

@@ -1,8 +1,8 @@
--- What the device has for a command (document 01, "Commands"; document 02, A1 and A12): one row for each operation code.
-use Prim.Native.Nat.{ℕ, _+_, _-_}
+-- What the device has for a command (document 01, "Commands"; document 02, A1, A2 and A12): one row for each operation code.
+use Prim.Native.Nat.{ℕ, _+_, _-_, min}
 use mathlib.Core.Bool.{Bool, true}
 use mathlib.Core.List.{List, [], _∷_}
-use lib.Dec.{eqb, leb, ltb}
+use lib.Dec.{eqb, leb}
 use Rattle.wire.specs.Choice.{if_then_else_, _and_, Row, row, look}
 use Rattle.wire.specs.Slices.{byteAt, bytesAt}
 use Rattle.wire.specs.Numbers.{big}
@@ -11,7 +11,11 @@ use Rattle.scsi.specs.declared.command.Plan.{Plan}
 use Rattle.scsi.specs.declared.command.Plan.the-variants.{Failed, Nothing, Reply, Read, Write}
 use Rattle.scsi.specs.declared.reply.ReplyKind.{ReplyKind}
 use Rattle.scsi.specs.declared.reply.ReplyKind.the-variants as kind
+use Rattle.scsi.specs.declared.page.Listed.{Listed}
+use Rattle.scsi.specs.declared.page.Listed.the-variants.{Missing, Found}
 use Rattle.scsi.specs.Sense.{invalidCode, invalidField, outOfRange}
+use Rattle.scsi.specs.Page.{pageOf}
+use Rattle.scsi.specs.Reply.{replySize}
 
 -- A code's block length, its rules on the control byte and on the other fields, and what a unit of so many blocks has for it.
 pub record Command : Type 0 where
@@ -29,13 +33,25 @@ known n rule plan = record { size = n; control = λ b. clear 0 2 (byteAt b (n - 
 abbrev pub allocation : List ℕ → ℕ
 allocation b = byteAt b 4
 
--- "SPC-3 puts the allocation length in bytes 3 and 4, big endian": of code 12 only (document 02, A1; SPC-3, 6.4.1)
+-- "SPC-3 puts the allocation length in bytes 3 and 4, big endian": of code 12 only, and of its pages too (document 02, A1; SPC-3, 6.4.1)
 abbrev pub inquiryAllocation : List ℕ → ℕ
 inquiryAllocation b = big (bytesAt 2 3 b)
 
--- A reply of so many bytes, cut to the allocation length.
-unfoldable pub cut : ReplyKind → ℕ → ℕ → Plan
-cut k size allocated = if ltb allocated size then Reply k allocated else Reply k size
+-- A reply, cut to the allocation length.
+unfoldable pub cut : ReplyKind → ℕ → Plan
+cut k allocated = Reply k (min allocated (replySize k))
+
+-- "Inquiry serves page 00 .., 80 .. and 83 ... Other pages fail 05/24/00." (document 02, A2)
+unfoldable pub paged : Listed → ℕ → Plan
+paged Missing allocated = Failed invalidField
+paged (Found p) allocated = cut (kind.Page p) allocated
+
+-- "With byte 1 bit 0 set", EVPD, the page of byte 2; with it clear the standard data, byte 2 being 0 (SPC-3, 6.4.1).
+unfoldable pub inquired : List ℕ → Plan
+inquired b =
+    if clear 0 0 (byteAt b 1)
+    then (if eqb (byteAt b 2) 0 then cut kind.Inquiry (inquiryAllocation b) else Failed invalidField)
+    else paged (pageOf (byteAt b 2)) (inquiryAllocation b)
 
 -- "Block address in bytes 2 to 5, count in 7 to 8, big endian"
 abbrev pub address : List ℕ → ℕ
@@ -60,19 +76,19 @@ abbrev pub testUnitReady : Command
 testUnitReady = known 6 (λ b. true) (λ n b. Nothing)
 
 abbrev pub requestSense : Command
-requestSense = known 6 (λ b. clear 0 0 (byteAt b 1)) (λ n b. cut kind.Sense 18 (allocation b))
+requestSense = known 6 (λ b. clear 0 0 (byteAt b 1)) (λ n b. cut kind.Sense (allocation b))
 
 abbrev pub inquiry : Command
-inquiry = known 6 (λ b. clear 0 0 (byteAt b 1) and eqb (byteAt b 2) 0) (λ n b. cut kind.Inquiry 36 (inquiryAllocation b))
+inquiry = known 6 (λ b. true) (λ n b. inquired b)
 
 abbrev pub modeSense : Command
-modeSense = known 6 (λ b. eqb (byteAt b 2) 0x3F) (λ n b. cut kind.ModeSense 4 (allocation b))
+modeSense = known 6 (λ b. eqb (byteAt b 2) 0x3F) (λ n b. cut kind.ModeSense (allocation b))
 
 abbrev pub preventAllow : Command
 preventAllow = known 6 (λ b. clear 0 0 (byteAt b 4)) (λ n b. Nothing)
 
 abbrev pub readCapacity : Command
-readCapacity = known 10 (λ b. true) (λ n b. Reply kind.Capacity 8)
+readCapacity = known 10 (λ b. true) (λ n b. Reply kind.Capacity (replySize kind.Capacity))
 
 abbrev pub read10 : Command
 read10 = known 10 (λ b. unflagged b) (λ n b. within n b (Read (address b) (count b)))

@@ -1,23 +1,21 @@
--- The bytes of the replies (document 01, "Commands").
+-- The bytes of the replies, and how many they are (document 01, "Commands"; document 02, A2).
 use Prim.Native.Nat.{ℕ, _-_}
 use mathlib.Core.List.{List, [], _∷_, _++_}
-use lib.ListN.{length, replicate}
 use Rattle.wire.specs.Numbers.{bigBytes}
 use Rattle.wire.specs.Packet.{packetOf}
 use Rattle.wire.specs.Slices.{zeros}
-use Rattle.wire.specs.Texts.{ascii, vendorText, productText}
+use Rattle.wire.specs.Texts.{ascii, padded, vendorText, productText}
 use Rattle.wire.specs.declared.packet.Packet.{Packet}
 use Rattle.scsi.specs.declared.sense.Sense.{Sense}
+use Rattle.scsi.specs.declared.reply.ReplyKind.{ReplyKind}
+use Rattle.scsi.specs.declared.reply.ReplyKind.the-variants as kind
 use Rattle.scsi.specs.declared.reply.Reply.{Reply}
 use Rattle.scsi.specs.declared.reply.Reply.the-variants as reply
+use Rattle.scsi.specs.Page.{pageData, pageSize}
 
 -- Fixed format (SPC-3, 4.5.3).
 unfoldable pub senseData : Sense → List ℕ
 senseData s = 0x70 ∷ 0x00 ∷ s .key ∷ zeros 4 ++ 0x0A ∷ zeros 4 ++ s .asc ∷ s .ascq ∷ zeros 4
-
--- A text in a field of n bytes, spaces behind it (SPC-3, 4.4.1).
-unfoldable pub padded : ℕ → List ℕ → List ℕ
-padded n t = t ++ replicate (n - length t) 0x20
 
 -- Standard INQUIRY data (SPC-3, 6.4.2).
 unfoldable pub inquiryData : List ℕ
@@ -35,11 +33,28 @@ modeData = 0x03 ∷ 0x00 ∷ 0x00 ∷ 0x00 ∷ []
 unfoldable pub capacityData : ℕ → List ℕ
 capacityData blocks = bigBytes 4 (blocks - 1) ++ bigBytes 4 512
 
-abbrev pub replyData : Reply → List ℕ
-replyData (reply.Sense s) = senseData s
-replyData reply.Inquiry = inquiryData
-replyData reply.ModeSense = modeData
-replyData (reply.Capacity blocks) = capacityData blocks
+-- The whole of a reply: of the values found at the wrapper, and of the collector number, which never changes.
+abbrev pub replyData : ℕ → Reply → List ℕ
+replyData number (reply.Sense s) = senseData s
+replyData number reply.Inquiry = inquiryData
+replyData number (reply.Page p) = pageData number p
+replyData number reply.ModeSense = modeData
+replyData number (reply.Capacity blocks) = capacityData blocks
 
-unfoldable pub replyPacket : Reply → Packet
-replyPacket r = packetOf (replyData r)
+unfoldable pub replyPacket : ℕ → Reply → Packet
+replyPacket number r = packetOf (replyData number r)
+
+abbrev pub kindOf : Reply → ReplyKind
+kindOf (reply.Sense s) = kind.Sense
+kindOf reply.Inquiry = kind.Inquiry
+kindOf (reply.Page p) = kind.Page p
+kindOf reply.ModeSense = kind.ModeSense
+kindOf (reply.Capacity blocks) = kind.Capacity
+
+-- How long the whole is; that it is so, whatever the values and the number, is `Sizes` in Claims.antt.
+abbrev pub replySize : ReplyKind → ℕ
+replySize kind.Sense = 18
+replySize kind.Inquiry = 36
+replySize (kind.Page p) = pageSize p
+replySize kind.ModeSense = 4
+replySize kind.Capacity = 8

@@ -1,8 +1,12 @@
 // The command reader: a command block, read where it stands, and the number of blocks give what the device has for it.
 ghost use mathlib.Core.Path.{_≡_};
-ghost use Rattle.scsi.specs.Command.{blockLength, controlClear, planOf, planBy, allocation, cut, rangedOf};
+ghost use Rattle.scsi.specs.Command.{blockLength, controlClear, planOf, planBy, allocation, cut, paged, rangedOf};
+ghost use Rattle.scsi.specs.Page.{pageOf};
 ghost use Rattle.scsi.specs.Command.{requestSense, inquiry, modeSense, preventAllow, read10, write10, verify10};
+use crate::page::Listed;
+use crate::page::page_of;
 use crate::reply::ReplyKind;
+use crate::reply::reply_size;
 use crate::sense::Sense;
 use wire::fields::be16;
 use wire::fields::be32;
@@ -68,10 +72,11 @@ pub fn plan_of(block: &[u8], blocks: u32) -> Plan
     }
 }
 
-// A reply of `size` bytes, cut to the allocation length.
-fn cut(kind: ReplyKind, size: u8, allocated: u16) -> Plan
-    ensures { λ r. ⌜ r ≡ cut kind size allocated ⌝ }
+// A reply, cut to the allocation length.
+fn cut(kind: ReplyKind, allocated: u16) -> Plan
+    ensures { λ r. ⌜ r ≡ cut kind allocated ⌝ }
 {
+    let size = reply_size(kind);
     if allocated < (size as u16) {
         let sent = allocated as u8;
         return Plan::Reply { kind, size: sent };
@@ -80,10 +85,20 @@ fn cut(kind: ReplyKind, size: u8, allocated: u16) -> Plan
 }
 
 // A reply whose allocation length is byte 4.
-fn reply(kind: ReplyKind, size: u8, block: &[u8]) -> Plan
-    ensures { λ r. ⌜ r ≡ cut kind size (allocation (now (block .entry))) ⌝ }
+fn reply(kind: ReplyKind, block: &[u8]) -> Plan
+    ensures { λ r. ⌜ r ≡ cut kind (allocation (now (block .entry))) ⌝ }
 {
-    cut(kind, size, byte(block, 4) as u16)
+    cut(kind, byte(block, 4) as u16)
+}
+
+// A page by its code; one that is not served fails whatever the allocation length.
+fn page(code: u8, allocated: u16) -> Plan
+    ensures { λ r. ⌜ r ≡ paged (pageOf code) allocated ⌝ }
+{
+    match page_of(code as u32) {
+        Listed::Missing => Plan::Failed(Sense::INVALID_FIELD),
+        Listed::Found(page) => cut(ReplyKind::Page(page), allocated),
+    }
 }
 
 // A command on blocks has what is given, if its flags are clear and its blocks lie in the unit.
@@ -108,19 +123,23 @@ fn request_sense(block: &[u8], blocks: u32) -> Plan
     if byte(block, 1) & 0x01 != 0 {
         return Plan::Failed(Sense::INVALID_FIELD);
     }
-    reply(ReplyKind::Sense, 18, block)
+    reply(ReplyKind::Sense, block)
 }
 
+// With EVPD set a page, else the standard data.
 fn inquiry(block: &[u8], blocks: u32) -> Plan
     ensures { λ r. ⌜ r ≡ planBy inquiry blocks (now (block .entry)) ⌝ }
 {
-    if byte(block, 1) & 0x01 != 0 {
+    let evpd = byte(block, 1) & 0x01;
+    let code = byte(block, 2);
+    let allocated = be16(block, 3);
+    if evpd != 0 {
+        return page(code, allocated);
+    }
+    if code != 0 {
         return Plan::Failed(Sense::INVALID_FIELD);
     }
-    if byte(block, 2) != 0 {
-        return Plan::Failed(Sense::INVALID_FIELD);
-    }
-    cut(ReplyKind::Inquiry, 36, be16(block, 3))
+    cut(ReplyKind::Inquiry, allocated)
 }
 
 fn mode_sense(block: &[u8], blocks: u32) -> Plan
@@ -129,7 +148,7 @@ fn mode_sense(block: &[u8], blocks: u32) -> Plan
     if byte(block, 2) != 0x3F {
         return Plan::Failed(Sense::INVALID_FIELD);
     }
-    reply(ReplyKind::ModeSense, 4, block)
+    reply(ReplyKind::ModeSense, block)
 }
 
 fn prevent_allow(block: &[u8], blocks: u32) -> Plan

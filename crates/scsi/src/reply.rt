@@ -1,7 +1,11 @@
-// The bytes of the replies. A reply is named by its kind and the values found at the wrapper; its bytes are made when asked for.
+// The bytes of the replies. A reply is named by its kind and the values found at the wrapper; its bytes are made when asked
+// for, those of a page of the collector number, which never changes.
 ghost use mathlib.Core.Path.{_≡_};
 ghost use Prim.Native.Nat.{_-_};
-ghost use Rattle.scsi.specs.Reply.{replyPacket, senseData, inquiryData, capacityData};
+ghost use Rattle.scsi.specs.Reply.{kindOf, replySize, replyPacket, senseData, inquiryData, capacityData};
+use crate::page::Page;
+use crate::page::page_bytes;
+use crate::page::page_size;
 use crate::sense::Sense;
 use wire::fields::put_be32;
 use wire::packet::Packet;
@@ -13,6 +17,7 @@ use wire::texts::VENDOR;
 pub enum ReplyKind {
     Sense,
     Inquiry,
+    Page(Page),
     ModeSense,
     Capacity,
 }
@@ -20,16 +25,44 @@ pub enum ReplyKind {
 pub enum Reply {
     Sense(Sense),
     Inquiry,
+    Page(Page),
     ModeSense,
     Capacity { blocks: u32 },
 }
 
-pub fn reply_bytes(reply: Reply) -> Packet
-    ensures { λ r. ⌜ r ≡ replyPacket reply ⌝ }
+pub fn kind_of(reply: Reply) -> ReplyKind
+    ensures { λ r. ⌜ r ≡ kindOf reply ⌝ }
+{
+    match reply {
+        Reply::Sense(_) => ReplyKind::Sense,
+        Reply::Inquiry => ReplyKind::Inquiry,
+        Reply::Page(page) => ReplyKind::Page(page),
+        Reply::ModeSense => ReplyKind::ModeSense,
+        Reply::Capacity { blocks: _ } => ReplyKind::Capacity,
+    }
+}
+
+// How long the whole of a reply is.
+pub fn reply_size(kind: ReplyKind) -> u8
+    ensures { λ r. ⌜ r ≡ replySize kind ⌝ }
+{
+    match kind {
+        ReplyKind::Sense => 18,
+        ReplyKind::Inquiry => 36,
+        ReplyKind::Page(page) => page_size(page),
+        ReplyKind::ModeSense => 4,
+        ReplyKind::Capacity => 8,
+    }
+}
+
+// The whole, before it is cut.
+pub fn reply_bytes(reply: Reply, number: u64) -> Packet
+    ensures { λ r. ⌜ r ≡ replyPacket number reply ⌝ }
 {
     match reply {
         Reply::Sense(sense) => packet_of(&sense_data(sense)),
         Reply::Inquiry => packet_of(&inquiry_data()),
+        Reply::Page(page) => page_bytes(page, number),
         Reply::ModeSense => packet_of(&[0x03, 0x00, 0x00, 0x00]),
         Reply::Capacity { blocks } => packet_of(&capacity_data(blocks)),
     }

@@ -1,14 +1,13 @@
 // Number 10: whether a record fits together. Sums and products are taken in 64 bits: a record may hold any numbers.
 ghost use mathlib.Core.Path.{_≡_};
-ghost use lib.ListN.{length};
-ghost use Rattle.scsi.specs.Reply.{replyData};
 ghost use Rattle.machine.specs.Fits.{sizeFits, numberFits, isReady, idleFits, lockFits, taskFits, fits, outFits, inFits};
 use machine::record::Link;
 use machine::record::MOST_BLOCKS;
 use machine::record::Stage;
 use machine::record::State;
 use machine::record::Task;
-use scsi::reply::Reply;
+use scsi::reply::kind_of;
+use scsi::reply::reply_size;
 use usb::descriptor::Identity;
 
 pub fn size_fits(blocks: usize) -> bool
@@ -92,17 +91,6 @@ fn lock_fits(link: Link) -> bool
     haltout
 }
 
-fn reply_size(reply: Reply) -> u32
-    ensures { λ r. ⌜ r ≡ length (replyData reply) ⌝ }
-{
-    match reply {
-        Reply::Sense(_) => 18,
-        Reply::Inquiry => 36,
-        Reply::ModeSense => 4,
-        Reply::Capacity { blocks: _ } => 8,
-    }
-}
-
 // A write under way: its blocks, the bytes held of the next one, and what of the announced length is left.
 pub fn out_fits(blocks: u32, block: u32, left: u32, held: u32, announced: u32, residue: u32) -> bool
     ensures { λ r. ⌜ r ≡ outFits blocks block left held announced residue ⌝ }
@@ -159,7 +147,7 @@ fn task_fits(blocks: u32, task: Task) -> bool
             residue,
         ),
         Stage::ReplyIn { reply, place, left } => in_fits(
-            reply_size(reply) as u64,
+            reply_size(kind_of(reply)) as u64,
             place,
             left,
             announced,

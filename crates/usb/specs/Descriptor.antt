@@ -2,9 +2,9 @@
 use Prim.Native.Nat.{ℕ, _+_, _*_}
 use mathlib.Core.List.{List, [], _∷_, _++_}
 use lib.ListN.{length}
-use Rattle.wire.specs.Numbers.{littleBytes, decimal}
+use Rattle.wire.specs.Numbers.{littleBytes}
 use Rattle.wire.specs.Packet.{packetOf}
-use Rattle.wire.specs.Texts.{vendorText, productText}
+use Rattle.wire.specs.Texts.{vendorText, productText, serialText}
 use Rattle.wire.specs.declared.packet.Packet.{Packet}
 use Rattle.usb.specs.declared.descriptor.Identity.{Identity}
 use Rattle.usb.specs.declared.descriptor.Descriptor.{Descriptor}
@@ -37,14 +37,13 @@ utf16 (c ∷ s) = c ∷ 0x00 ∷ utf16 s
 unfoldable pub stringDescriptor : List ℕ → List ℕ
 stringDescriptor s = (2 + 2 * length s) ∷ 0x03 ∷ utf16 s
 
--- "the collector number as exactly twelve decimal digits, zeros in front"
 abbrev pub descriptorData : Descriptor → Identity → List ℕ
 descriptorData descriptor.Device id = deviceDescriptor id
 descriptorData descriptor.Configuration id = configurationDescriptor
 descriptorData descriptor.Languages id = languages
 descriptorData descriptor.Vendor id = stringDescriptor vendorText
 descriptorData descriptor.Product id = stringDescriptor productText
-descriptorData descriptor.Serial id = stringDescriptor (decimal 12 (id .number))
+descriptorData descriptor.Serial id = stringDescriptor (serialText (id .number))
 
 unfoldable pub descriptorPacket : Descriptor → Identity → Packet
 descriptorPacket d id = packetOf (descriptorData d id)

@@ -67,6 +67,17 @@ unfolding look
 look-all P [] x other h o = o
 look-all P (r ∷ rs) x other h o = by-if P (eqb x (r .key)) (r .entry) (look rs x other) (λ _. h .0) (λ _. look-all P rs x other (h .1) o)
 
+-- the same where the row's key is known to be the number
+abbrev pub Keyed : {A : Type 0} → (A → Type 0) → ℕ → List (Row A) → Type 0
+Keyed P x [] = Unit {0}
+Keyed P x (r ∷ rs) = (x ≡ r .key → P (r .entry)) × Keyed P x rs
+
+pub look-keyed : {A : Type 0} (P : A → Type 0) (rs : List (Row A)) (x : ℕ) (other : A) → Keyed P x rs → P other → P (look rs x other)
+unfolding look
+look-keyed P [] x other h o = o
+look-keyed P (r ∷ rs) x other h o =
+    by-if P (eqb x (r .key)) (r .entry) (look rs x other) (λ e. h .0 (eqb-true _ _ e)) (λ _. look-keyed P rs x other (h .1) o)
+
 -- ---- an arm of several keys: a test that computes on the keys says what holds at each
 
 unfoldable pub all-are : (ℕ → ℕ) → ℕ → List ℕ → Bool

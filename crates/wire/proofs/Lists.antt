@@ -73,6 +73,13 @@ placed-whole d s e =
     ∙ ap (λ (l : List ℕ). s ++ l) (drop-of-length-le d {i = 0 + length s} (omega arith))
     ∙ append-nil s
 
+-- s takes the end of d
+pub placed-end : (d : List ℕ) (at : ℕ) (s : List ℕ) → at + length s ≡ length d → placed d at s ≡ take at d ++ s
+placed-end d at s e =
+    placed-yes d at s (omega arith)
+    ∙ ap (λ (l : List ℕ). (take at d ++ s) ++ l) (drop-of-length-le d {i = at + length s} (omega arith))
+    ∙ append-nil (take at d ++ s)
+
 -- ---- the bytes from a place on
 
 pub bytes-tail : (n at : ℕ) (s : List ℕ) → at + n ≤ length s → bytesAt n at s ≡ take n (drop at s)

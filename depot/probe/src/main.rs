@@ -4,6 +4,7 @@
 //! of them, and no other block may change. Prints a line for each check: its name, `ok` or `FAILED`, and what was seen.
 
 mod bot;
+mod pages;
 mod usbfs;
 
 use bot::{
@@ -15,6 +16,8 @@ use usbfs::{Device, EPIPE, ETIMEDOUT};
 
 /// Milliseconds after which an ask that waits is taken back.
 const SHORT: Option<u32> = Some(300);
+
+const INQUIRY: &[u8] = b"\x00\x80\x05\x02\x1F\x00\x00\x00COLLECT METER EXPORT    0100";
 
 type Outcome = std::result::Result<String, String>;
 type Check = fn(&Probe) -> Outcome;
@@ -79,26 +82,27 @@ impl Probe {
         Ok("nak while data is due, and the data is unharmed".into())
     }
 
-    /// An Inquiry with bytes 3 and 4 as given, which announces more than its 36 bytes.
-    fn inquiry(&self, tag: u32, announced: u32, [byte_3, byte_4]: [u8; 2], residue: u32) -> Outcome {
-        let wrapper = cbw(tag, announced, true, 0, &[0x12, 0, 0, byte_3, byte_4, 0]);
-        passes("a wrapper", self.device.bulk_out(&wrapper, None))?;
-        let data = passes("data", self.device.bulk_in(announced, None))?;
+    /// A command that announces more than the device has for it, which are the bytes `expected`.
+    fn short_data(&self, tag: u32, announced: u32, block: &[u8], expected: &[u8]) -> Outcome {
+        let residue = announced - expected.len() as u32;
+        passes("a wrapper", self.device.bulk_out(&cbw(tag, announced, true, 0, block), None))?;
+        if !expected.is_empty() {
+            equal("data", &passes("data", self.device.bulk_in(announced, None))?, expected)?;
+        }
         ends_with("the pipe after it", EPIPE, self.device.bulk_in(13, None))?;
         passes("Clear Feature", self.device.clear_halt(0x81))?;
         equal("status", &passes("status", self.device.bulk_in(13, None))?, &csw(tag, residue, 0))?;
-        equal("names", data.get(8..).unwrap_or_default(), b"COLLECT METER EXPORT    0100")?;
-        Ok(format!("36 bytes, a stall, status 0, residue {residue}"))
+        Ok(format!("{} bytes, a stall, status 0, residue {residue}", expected.len()))
     }
 
     /// The bench sheet's row: Inquiry, byte 4 = 36, announced 64.
     fn short_reply(&self) -> Outcome {
-        self.inquiry(0x112, 64, [0, 36], 28)
+        self.short_data(0x112, 64, &[0x12, 0, 0, 0, 36, 0], INQUIRY)
     }
 
     /// Document 02, A1: announced 256 with bytes 3 and 4 at 01 00.
     fn long_inquiry(&self) -> Outcome {
-        self.inquiry(0x113, 256, [0x01, 0x00], 220)
+        self.short_data(0x113, 256, &[0x12, 0, 0, 0x01, 0x00, 0], INQUIRY)
     }
 
     /// Neither pipe moves, Clear Feature or not, until Mass Storage Reset.
@@ -179,12 +183,16 @@ impl Probe {
 fn run(path: &str, before: &str, data: &str) -> Result<()> {
     let probe =
         Probe { device: Device::open(path)?, before: std::fs::read(before)?, data: std::fs::read(data)? };
-    let checks: [(&str, Check); 11] = [
+    let checks: [(&str, Check); 15] = [
         ("early-ask", Probe::early_ask),
         ("waiting-ask", Probe::waiting_ask),
         ("early-wrapper", Probe::early_wrapper),
         ("short-reply", Probe::short_reply),
         ("long-inquiry", Probe::long_inquiry),
+        ("page-residue", Probe::page_residue),
+        ("page-of-0", Probe::page_of_0),
+        ("page-phase-error", Probe::page_phase_error),
+        ("page-codes", Probe::page_codes),
         ("short-wrapper-locks", Probe::short_wrapper),
         ("other-unit-locks", Probe::other_unit),
         ("reset-in-read", Probe::reset_in_read),

@@ -1,6 +1,8 @@
 //! The faults: each a slip that this trade makes, or one that a first firmware has. A fault changes what the ordinary device
 //! is lent before the event, or what it did after it; `before` is the record that the event found.
 
+mod pages;
+
 use crate::capi::CAnswer;
 use crate::device::{Device, Refusal};
 use crate::record::{flag, stage, Record};
@@ -37,6 +39,14 @@ pub enum Fault {
     Control,
     /// Inquiry's allocation length is byte 4 alone, as it was before document 02, A1.
     InquiryLength,
+    /// Page 80 has the collector number's digits without their zeros in front (document 02, A2).
+    PageDigits,
+    /// Page 83 has the vendor's seven letters without the space that makes a field of eight.
+    PageVendor,
+    /// A page that is cut tells the length of what is left of it.
+    PageCut,
+    /// A page that there is not is taken for no page: standard Inquiry data.
+    PageRefusal,
     /// No halt after data that is shorter than announced: the status wrapper runs into the data.
     NoHalt,
     /// A bus reset does not end the lock of a phase error.
@@ -65,7 +75,7 @@ pub enum Fault {
     Wrap65536,
 }
 
-const NAMES: [(&str, Fault); 22] = [
+const NAMES: [(&str, Fault); 26] = [
     ("none", Fault::None),
     ("digits", Fault::Digits),
     ("capacity", Fault::Capacity),
@@ -75,6 +85,10 @@ const NAMES: [(&str, Fault); 22] = [
     ("sum", Fault::Sum),
     ("control", Fault::Control),
     ("inquiry-length", Fault::InquiryLength),
+    ("page-digits", Fault::PageDigits),
+    ("page-vendor", Fault::PageVendor),
+    ("page-cut", Fault::PageCut),
+    ("page-refusal", Fault::PageRefusal),
     ("no-halt", Fault::NoHalt),
     ("lock-stays", Fault::LockStays),
     ("never-stores", Fault::NeverStores),
@@ -128,7 +142,7 @@ fn misread(block: &mut [u8]) {
     match (chosen(), control_place(block[0])) {
         (Fault::Control, Some(place)) => block[place] &= !REFUSED_CONTROL_BITS,
         (Fault::InquiryLength, _) if block[0] == code::INQUIRY => block[3] = 0,
-        _ => {}
+        _ => pages::misread(block),
     }
 }
 
@@ -243,7 +257,7 @@ pub fn bulk_out(record: &mut Record, packet: &[u8]) {
                 (record.sense_key, record.sense_asc, record.sense_ascq) = (0, 0, 0);
             }
         }
-        _ => {}
+        _ => pages::begin(record),
     }
 }
 
@@ -254,7 +268,7 @@ pub fn bulk_in(before: &Record, record: &mut Record, buffer: &mut [u8], answer: 
     if answer.number != DATA {
         return answer;
     }
-    let status = before.stage >= stage::PASSED;
+    let status = before.status_due();
     match chosen() {
         Fault::Capacity if before.stage == stage::READ_CAPACITY => {
             buffer[..4].copy_from_slice(&before.value.to_be_bytes())
@@ -265,7 +279,7 @@ pub fn bulk_in(before: &Record, record: &mut Record, buffer: &mut [u8], answer: 
         Fault::Residue if before.stage == stage::PASSED => buffer[8..12].fill(0),
         Fault::Wrap4096 => wrap(record, 4096),
         Fault::Wrap65536 => wrap(record, 65_536),
-        _ => {}
+        _ => pages::send(before, &mut buffer[..answer.count]),
     }
     answer
 }

@@ -15,6 +15,8 @@ mod cases;
 mod control;
 #[path = "../../../rust/src/device.rs"]
 mod device;
+#[path = "../../../rust/src/pages.rs"]
+mod pages;
 #[path = "../../../rust/src/record.rs"]
 mod record;
 #[path = "../../../rust/src/scsi.rs"]

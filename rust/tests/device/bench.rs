@@ -12,8 +12,11 @@ pub const TAG: u32 = 0x826A_6008;
 impl Bench {
     /// A configured device with a medium of zeros.
     pub fn new(blocks: usize) -> Bench {
+        Bench::with(Identity { number: 42, vendor: 0x1234, product: 0x5678, release: 0x0100 }, blocks)
+    }
+
+    pub fn with(identity: Identity, blocks: usize) -> Bench {
         let medium = vec![0; blocks * BLOCK];
-        let identity = Identity { number: 42, vendor: 0x1234, product: 0x5678, release: 0x0100 };
         let mut bench = Bench { device: Device::make(identity, &medium).unwrap(), medium };
         assert_eq!(bench.control([0x00, 0x09, 1, 0, 0, 0, 0, 0]), Ok(vec![]));
         bench
@@ -55,6 +58,32 @@ impl Bench {
         let csw = self.ask().unwrap();
         assert_eq!((&csw[..4], &csw[4..8]), (&b"USBS"[..], &TAG.to_le_bytes()[..]));
         (u32::from_le_bytes(csw[8..12].try_into().unwrap()), csw[12])
+    }
+
+    /// Carries a data-in command through, which must pass and send exactly `data`, at most a packet. Where more was
+    /// announced the pipe halts, and the residue says how much.
+    pub fn sends(&mut self, announced: u32, block: &[u8], data: &[u8]) {
+        self.command(announced, true, block);
+        if !data.is_empty() {
+            assert_eq!(self.ask().as_deref(), Ok(data), "{block:02X?}");
+        }
+        self.ends(block, announced - data.len() as u32, 0);
+    }
+
+    /// Carries a data-in command through, which must fail without data.
+    pub fn fails(&mut self, announced: u32, block: &[u8], sense: [u8; 3]) {
+        self.command(announced, true, block);
+        self.ends(block, announced, 1);
+        assert_eq!(self.sense(), sense, "{block:02X?}");
+    }
+
+    /// The end of a data-in command: a halt where there is a residue, and its status.
+    fn ends(&mut self, block: &[u8], residue: u32, status: u8) {
+        if residue > 0 {
+            assert_eq!(self.ask(), Err(Answer::Stall), "{block:02X?}");
+            self.clear_halt(0x81);
+        }
+        assert_eq!(self.status(), (residue, status), "{block:02X?}");
     }
 
     /// Key, ASC and ASCQ by Request Sense.

@@ -17,21 +17,6 @@ fn bits() -> impl Iterator<Item = u8> {
     (0..8).map(|bit| 1 << bit).chain([0xFF])
 }
 
-/// Carries a data-in command through, which must pass and send exactly `data`, at most a packet. Where more was announced
-/// the pipe halts, and the residue says how much.
-fn sends(bench: &mut Bench, announced: u32, block: &[u8], data: &[u8]) {
-    bench.command(announced, true, block);
-    if !data.is_empty() {
-        assert_eq!(bench.ask().as_deref(), Ok(data), "{block:02X?}");
-    }
-    let residue = announced - data.len() as u32;
-    if residue > 0 {
-        assert_eq!(bench.ask(), Err(Answer::Stall), "{block:02X?}");
-        bench.clear_halt(0x81);
-    }
-    assert_eq!(bench.status(), (residue, 0), "{block:02X?}");
-}
-
 #[test]
 fn a_host_that_asks_for_256_bytes_gets_36() {
     let mut bench = Bench::new(1);
@@ -47,7 +32,7 @@ fn a_host_that_asks_for_256_bytes_gets_36() {
 fn the_longest_allocation_length_is_allowed() {
     let mut bench = Bench::new(1);
     for announced in [36, 65_535, u32::MAX] {
-        sends(&mut bench, announced, &inquiry(0xFF, 0xFF), INQUIRY);
+        bench.sends(announced, &inquiry(0xFF, 0xFF), INQUIRY);
     }
 }
 
@@ -57,8 +42,8 @@ fn byte_3_alone_is_enough_for_the_whole_reply() {
     let mut bench = Bench::new(1);
     for byte_3 in bits() {
         for byte_4 in [0, 1, 4, 5, 35, 36, 255] {
-            sends(&mut bench, 36, &inquiry(byte_3, byte_4), INQUIRY);
-            sends(&mut bench, 256, &inquiry(byte_3, byte_4), INQUIRY);
+            bench.sends(36, &inquiry(byte_3, byte_4), INQUIRY);
+            bench.sends(256, &inquiry(byte_3, byte_4), INQUIRY);
         }
     }
 }
@@ -69,8 +54,8 @@ fn byte_4_cuts_while_byte_3_is_zero() {
     let mut bench = Bench::new(1);
     for byte_4 in 0..=0xFF {
         let sent = usize::from(byte_4).min(36);
-        sends(&mut bench, 36, &inquiry(0, byte_4), &INQUIRY[..sent]);
-        sends(&mut bench, sent as u32, &inquiry(0, byte_4), &INQUIRY[..sent]);
+        bench.sends(36, &inquiry(0, byte_4), &INQUIRY[..sent]);
+        bench.sends(sent as u32, &inquiry(0, byte_4), &INQUIRY[..sent]);
     }
 }
 
@@ -78,8 +63,8 @@ fn byte_4_cuts_while_byte_3_is_zero() {
 #[test]
 fn zero_in_both_bytes_is_no_data() {
     let mut bench = Bench::new(1);
-    sends(&mut bench, 0, &inquiry(0, 0), &[]);
-    sends(&mut bench, 36, &inquiry(0, 0), &[]);
+    bench.sends(0, &inquiry(0, 0), &[]);
+    bench.sends(36, &inquiry(0, 0), &[]);
     bench.command(36, false, &inquiry(0, 0));
     assert_eq!(bench.send(&[0xAB; 36]), Answer::Stall);
     bench.clear_halt(0x02);
@@ -110,19 +95,13 @@ fn announcing_less_than_the_device_has_is_a_phase_error() {
     }
 }
 
-/// Fields are checked before the length cuts: the page bit, a page, a control bit.
+/// Fields are checked before the length cuts: a page that there is not, a page without the page bit, a control bit.
 #[test]
 fn a_refused_inquiry_has_no_data_whatever_its_length() {
     let mut bench = Bench::new(1);
-    for (place, bit) in [(1, 0x01), (2, 0x80), (5, 0x04)] {
+    for [byte_1, byte_2, byte_5] in [[0x01, 0x81, 0x00], [0x00, 0x80, 0x00], [0x00, 0x00, 0x04]] {
         for [byte_3, byte_4] in [[0x00, 0x00], [0x01, 0x00], [0xFF, 0xFF]] {
-            let mut block = inquiry(byte_3, byte_4);
-            block[place] = bit;
-            bench.command(256, true, &block);
-            assert_eq!(bench.ask(), Err(Answer::Stall));
-            bench.clear_halt(0x81);
-            assert_eq!(bench.status(), (256, 1), "{block:02X?}");
-            assert_eq!(bench.sense(), [0x05, 0x24, 0x00]);
+            bench.fails(256, &[0x12, byte_1, byte_2, byte_3, byte_4, byte_5], [0x05, 0x24, 0x00]);
         }
     }
 }
@@ -136,9 +115,9 @@ fn request_sense_and_mode_sense_do_not_read_byte_3() {
             bench.command(0, false, &block10(0x2F, 1, 1));
             assert_eq!(bench.status(), (0, 1));
             let sense = &RANGE_SENSE[..most.min(18)];
-            sends(&mut bench, 256, &[0x03, 0, 0, byte_3, byte_4, 0], sense);
+            bench.sends(256, &[0x03, 0, 0, byte_3, byte_4, 0], sense);
             let modes = &MODE_SENSE[..most.min(4)];
-            sends(&mut bench, 256, &[0x1A, 0, 0x3F, byte_3, byte_4, 0], modes);
+            bench.sends(256, &[0x1A, 0, 0x3F, byte_3, byte_4, 0], modes);
         }
     }
 }

@@ -7,4 +7,6 @@ mod control_byte;
 mod descriptors;
 mod inquiry_length;
 mod medium_size;
+mod page_records;
+mod product_pages;
 mod records;

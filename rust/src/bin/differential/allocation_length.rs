@@ -1,6 +1,8 @@
 //! What a run has met of allocation lengths (document 02, A1): Inquiry's where a device that reads one byte, or swaps the
-//! two, goes wrong; those of Request Sense and Mode Sense where a device that reads two bytes does.
+//! two, goes wrong; those of Request Sense and Mode Sense where a device that reads two bytes does. The product pages have
+//! a table of their own.
 
+use crate::inquiry;
 use ordinary::scsi::code;
 
 /// A code, a name, and whether bytes 3 and 4 of a block of that code lie there.
@@ -29,6 +31,9 @@ pub struct AllocationLengths {
 impl AllocationLengths {
     /// Notes a block whose command passed.
     pub fn note_passed(&mut self, block: &[u8; 16]) {
+        if inquiry::asks_page(block) {
+            return;
+        }
         for ((operation, _, holds), count) in REGIONS.iter().zip(&mut self.counts) {
             *count += u64::from(block[0] == *operation && holds(block[3], block[4]));
         }

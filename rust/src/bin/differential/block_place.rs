@@ -4,6 +4,7 @@
 use crate::event::Event;
 use crate::own::LIMIT;
 use crate::pair::Played;
+use crate::table::Table;
 use ordinary::device::{BLOCK, PACKET};
 use ordinary::record::{stage, Record};
 use ordinary::scsi::{self, code, Sense};
@@ -72,43 +73,27 @@ impl BlockPlaces {
         served[3] += u64::from(due >= 32_768);
     }
 
+    fn tables(&self) -> [Table<'_>; 2] {
+        let names = OPERATIONS.map(|(operation, name)| format!("{operation:02X} {name}"));
+        let served = names.iter().zip(self.served.iter().map(|counts| &counts[..]));
+        let failed = names.iter().zip(self.failed.iter().map(|counts| &counts[..]));
+        [
+            Table::new("packets read, blocks stored and verifies passed, by block", SERVED, served),
+            Table::new("range failures in 1,048,576 blocks", FAILED, failed),
+        ]
+    }
+
     pub fn print(&self) {
-        print("packets read, blocks stored and verifies passed, by block", &SERVED, &self.served);
-        print("range failures in 1,048,576 blocks", &FAILED, &self.failed);
+        self.tables().iter().for_each(Table::print);
     }
 
     /// What is owed of a run and did not occur.
     pub fn missing(&self) -> Vec<String> {
-        let mut missing = absent("block", &SERVED, &self.served);
-        missing.extend(absent("range failure", &FAILED, &self.failed));
-        missing
+        self.tables().iter().flat_map(Table::missing).collect()
     }
 }
 
 /// Whether a packet of data completes the part block.
 fn completes(before: &Record, packet: &[u8]) -> bool {
     packet.len() == PACKET && before.value as usize + PACKET == BLOCK
-}
-
-fn print<const N: usize>(title: &str, columns: &[&str; N], counts: &[[u64; N]; OPERATIONS.len()]) {
-    println!("\n{title}");
-    let header: String = columns.iter().map(|name| format!("{name:>20}")).collect();
-    println!("  {:<12}{header}", "");
-    for ((operation, name), counts) in OPERATIONS.iter().zip(counts) {
-        let row: String = counts.iter().map(|count| format!("{count:>20}")).collect();
-        println!("  {operation:02X} {name:<9}{row}");
-    }
-}
-
-fn absent<const N: usize>(
-    what: &str,
-    columns: &[&str; N],
-    counts: &[[u64; N]; OPERATIONS.len()],
-) -> Vec<String> {
-    let mut missing = vec![];
-    for ((operation, _), counts) in OPERATIONS.iter().zip(counts) {
-        let absent = columns.iter().zip(counts).filter(|(_, count)| **count == 0);
-        missing.extend(absent.map(|(column, _)| format!("{operation:02X} {what}: {column}")));
-    }
-    missing
 }

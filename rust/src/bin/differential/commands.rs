@@ -1,15 +1,18 @@
 //! Command wrappers as a host makes them: right ones, unfitting ones and damaged ones.
 
+use crate::inquiry;
 use crate::own::{LIMIT, SMALL};
 use crate::random::Random;
 use ordinary::device::BLOCK;
 use ordinary::scsi::{self, code, Data, Sense, REFUSED_CONTROL_BITS};
 use ordinary::wrapper::{CBW_SIGNATURE, CBW_SIZE};
 
-const CODES: [u8; 14] = [
+const CODES: [u8; 16] = [
     code::TEST_UNIT_READY,
     code::REQUEST_SENSE,
     code::REQUEST_SENSE,
+    code::INQUIRY,
+    code::INQUIRY,
     code::INQUIRY,
     code::MODE_SENSE,
     code::PREVENT_ALLOW,
@@ -71,12 +74,11 @@ fn command(random: &mut Random, blocks: u32, marked: &[u32]) -> [u8; 16] {
         code::VERIFY => block[1] &= 0x1D,
         code::PREVENT_ALLOW => block[4] &= 0xFE,
         code::MODE_SENSE => block[2] = 0x3F,
-        code::INQUIRY => (block[1], block[2]) = (block[1] & 0xFE, 0),
+        code::INQUIRY => inquiry::set_fields(random, &mut block),
         _ => block[1] &= 0xFE,
     }
     match block[0] {
         code::READ | code::WRITE | code::VERIFY => place(random, &mut block, blocks, marked),
-        code::INQUIRY => block[3..5].copy_from_slice(&inquiry_length(random).to_be_bytes()),
         code::REQUEST_SENSE | code::MODE_SENSE => {
             block[3] = if random.one_in(2) { random.number() as u8 } else { block[3] };
             block[4] = random.pick(&[0, 1, 3, 4, 5, 18, 36, 64, 192, 255, block[4]]);
@@ -106,24 +108,6 @@ fn ignored(random: &mut Random, block: &mut [u8; 16]) {
 fn refuse_control(random: &mut Random, block: &mut [u8; 16]) {
     if let Some(place) = scsi::control_place(block[0]) {
         block[place] |= random.pick(&[1, 2, 4, 3, 5, 6, 7]);
-    }
-}
-
-/// Inquiry's two bytes: none, less than its 36 bytes, just these, more by byte 4 alone, by one bit of byte 3 alone, by
-/// byte 3 with a byte 4 that alone would give less, the most there is.
-fn inquiry_length(random: &mut Random) -> u16 {
-    let less = 1 + random.below(35) as u16;
-    match random.below(12) {
-        0 => 0,
-        1 | 2 => less,
-        3 => 36,
-        4 => 37 + random.below(219) as u16,
-        5 => 256,
-        6 => 256 << random.below(8),
-        7 | 8 => (1 + random.below(255) as u16) << 8 | less,
-        9 => u16::MAX,
-        10 => random.pick(&[35, 37, 255, 257]),
-        _ => random.number() as u16,
     }
 }
 
@@ -178,7 +162,7 @@ fn announce(random: &mut Random, block: &[u8; 16], blocks: u32) -> (u32, bool) {
         3 => random.below(u64::from(length) + 1) as u32,
         4 => length.saturating_sub(1),
         5 => random.number() as u32,
-        6 => random.pick(&[18, 36, 64, 255, 256, 512, u32::MAX]),
+        6 => random.pick(&[7, 16, 18, 28, 36, 64, 255, 256, 512, u32::MAX]),
         // As most hosts do: room for all that the command allows.
         7 | 8 => scsi::allocation_length(block).map_or(length, u32::from),
         _ => length,

@@ -3,15 +3,16 @@
 use crate::allocation_length::AllocationLengths;
 use crate::block_place::BlockPlaces;
 use crate::control_byte::{self, ControlBytes};
-use crate::event::Event;
+use crate::event::{Event, KINDS};
 use crate::medium_size::MediumSizes;
+use crate::page_field::PageFields;
 use crate::pair::Played;
+use crate::product_page::ProductPages;
 use ordinary::cases::Case;
 use ordinary::record::{stage, Record};
 use ordinary::scsi::{self, code, Data, Sense};
 use ordinary::wrapper::Cbw;
 
-const KINDS: [&str; 5] = ["make", "bus reset", "control", "bulk-out", "bulk-in"];
 const NUMBERS: [usize; 11] = [0, 1, 2, 3, 4, 10, 11, 12, 13, 14, 15];
 /// The answers that each kind can give: all are owed.
 const OWED: [&[usize]; 5] =
@@ -29,8 +30,8 @@ pub const COMMANDS: [(u8, &str); 9] = [
 ];
 const STATUSES: [&str; 3] = ["passed", "failed", "phase error"];
 /// The verdicts at the wrapper, as places in `STATUSES`.
-const PASSED: usize = 0;
-const FAILED: usize = 1;
+pub const PASSED: usize = 0;
+pub const FAILED: usize = 1;
 const PHASE_ERROR: usize = 2;
 
 #[derive(Default)]
@@ -40,6 +41,8 @@ pub struct Coverage {
     commands: [[u64; 3]; COMMANDS.len() + 1],
     allocation_lengths: AllocationLengths,
     control_bytes: ControlBytes,
+    page_fields: PageFields,
+    product_pages: ProductPages,
     medium_sizes: MediumSizes,
     block_places: BlockPlaces,
     cases: [u64; 14],
@@ -49,23 +52,19 @@ pub struct Coverage {
 impl Coverage {
     /// Notes an event that was played on a device that was in the state of `before`.
     pub fn note(&mut self, before: &Record, event: &Event, played: &Played) {
-        let kind = match event {
-            Event::Make { .. } => 0,
-            Event::BusReset => 1,
-            Event::Control { .. } => 2,
-            Event::BulkOut { .. } => 3,
-            Event::BulkIn { .. } => 4,
-        };
         let number = played.answer.number as usize;
-        self.answers[kind][number] += 1;
+        self.answers[event.kind()][number] += 1;
         self.medium_sizes.note(before, event, played);
         self.block_places.note(before, event, played);
         match event {
             Event::BulkOut { packet, .. } if number == 1 && before.stage == stage::READY => {
                 self.note_wrapper(before, packet);
             }
-            Event::BulkIn { .. } if number == 0 && before.stage >= stage::PASSED => {
+            Event::BulkIn { .. } if number == 0 && before.status_due() => {
                 self.statuses[usize::from(played.buffer[12])] += 1;
+            }
+            Event::BulkIn { .. } if number == 0 && before.stage == stage::PRODUCT_PAGE => {
+                self.product_pages.note_sent(before);
             }
             _ => {}
         }
@@ -77,6 +76,10 @@ impl Coverage {
         let known = COMMANDS.iter().position(|(code, _)| *code == cbw.block[0]);
         self.commands[known.unwrap_or(COMMANDS.len())][verdict] += 1;
         self.cases[case as usize] += 1;
+        if cbw.block[0] == code::INQUIRY {
+            self.page_fields.note(cbw.block, verdict);
+            self.product_pages.note(cbw.block, case, verdict);
+        }
         if verdict == PASSED {
             self.allocation_lengths.note_passed(cbw.block);
         }
@@ -111,6 +114,8 @@ impl Coverage {
         println!("  {:<30}{:>9}", "any other code", self.commands[COMMANDS.len()][FAILED]);
         self.allocation_lengths.print();
         self.control_bytes.print();
+        self.page_fields.print();
+        self.product_pages.print();
         self.medium_sizes.print();
         self.block_places.print();
         println!("\nthe thirteen meetings of host and device");
@@ -144,6 +149,8 @@ impl Coverage {
         }
         missing.extend(self.allocation_lengths.missing());
         missing.extend(self.control_bytes.missing());
+        missing.extend(self.page_fields.missing());
+        missing.extend(self.product_pages.missing());
         missing.extend(self.medium_sizes.missing());
         missing.extend(self.block_places.missing());
         missing

@@ -6,6 +6,7 @@ use crate::host;
 use crate::invent::invent;
 use crate::large_media::LONGEST;
 use crate::own::Own;
+use crate::page_record::PageRecords;
 use crate::pair::Pair;
 use crate::random::Random;
 use crate::record_size::RecordSizes;
@@ -30,6 +31,7 @@ pub struct Damage {
     pub unfit: u64,
     pub fit: u64,
     pub sizes: RecordSizes,
+    pub pages: PageRecords,
 }
 
 impl Damage {
@@ -143,6 +145,7 @@ impl Damage {
             .map_err(|difference| format!("record: {}\nevent: {event}\n{difference}", show(before)))?;
         let unfit = played.answer.number == 10;
         self.sizes.note(before, event, &played);
+        self.pages.note(before, event, &played);
         self.events += 1;
         self.undecoded += u64::from(!decodes);
         self.unfit += u64::from(decodes && unfit);

@@ -26,7 +26,20 @@ pub enum Event {
     BulkIn { medium: Lent, buffer: Buffer },
 }
 
+pub const KINDS: [&str; 5] = ["make", "bus reset", "control", "bulk-out", "bulk-in"];
+
 impl Event {
+    /// Its kind's place in `KINDS`.
+    pub fn kind(&self) -> usize {
+        match self {
+            Event::Make { .. } => 0,
+            Event::BusReset => 1,
+            Event::Control { .. } => 2,
+            Event::BulkOut { .. } => 3,
+            Event::BulkIn { .. } => 4,
+        }
+    }
+
     pub fn medium(&self) -> Lent {
         match *self {
             Event::Make { medium, .. } | Event::BulkOut { medium, .. } | Event::BulkIn { medium, .. } => {

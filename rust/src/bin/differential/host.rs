@@ -168,9 +168,10 @@ fn long(random: &mut Random, blocks: u32) -> usize {
 }
 
 pub fn identity(random: &mut Random) -> Identity {
-    let number = match random.below(4) {
+    let number = match random.below(5) {
         0 => random.pick(&[0, 42, MAX_NUMBER]),
         1 => random.below(1_000_000),
+        2 => 10_u64.pow(random.below(12) as u32) - random.below(2),
         _ => random.below(MAX_NUMBER + 1),
     };
     Identity {

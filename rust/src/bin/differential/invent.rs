@@ -1,5 +1,6 @@
 //! Records that were made up, near the bounds of what fits together.
 
+use crate::inquiry::PAGES;
 use crate::own::{LIMIT, SMALL};
 use crate::random::Random;
 use ordinary::device::{BLOCK, MAX_NUMBER, PACKET};
@@ -23,7 +24,8 @@ pub fn invent(random: &mut Random, own: u32) -> Record {
     if random.one_in(2) {
         random.fill(&mut record.part);
     }
-    record.stage = random.below(stage::COUNT as u64) as u8;
+    // Now and then the first stage that there is not.
+    record.stage = random.below(stage::COUNT as u64 + 1) as u8;
     if record.stage != stage::READY || random.one_in(8) {
         set_command(random, &mut record);
     }
@@ -61,6 +63,7 @@ fn set_command(random: &mut Random, record: &mut Record) {
         stage::INQUIRY => 36,
         stage::MODE_SENSE => 4,
         stage::READ_CAPACITY => 8,
+        stage::PRODUCT_PAGE.. => set_page(random, record),
         _ => 0,
     };
     record.tag = random.number() as u32;
@@ -70,6 +73,11 @@ fn set_command(random: &mut Random, record: &mut Record) {
         let some = random.below(u64::from(room) + 1) as u32;
         record.place = size - room;
         record.left = random.pick(&[0, 1, room, room, room, room.saturating_add(1), some]);
+        if random.one_in(8) {
+            // Past the end with nothing left, and a sum that does not fit in 32 bits.
+            let past = (size.saturating_add(1), 0);
+            (record.place, record.left) = random.pick(&[past, (u32::MAX, some.saturating_add(1))]);
+        }
     }
     match record.stage {
         stage::DATA_OUT => record.value = 64 * random.below(9) as u32 + u32::from(random.one_in(12)),
@@ -84,6 +92,18 @@ fn set_command(random: &mut Random, record: &mut Record) {
     let due = record.left.wrapping_mul(scale);
     record.residue = due.wrapping_add(excess(random));
     record.announced = record.residue.wrapping_add(excess(random));
+}
+
+/// Sets a product page's code, or a value near one (document 02, A2); gives back a page's size, mostly its own.
+fn set_page(random: &mut Random, record: &mut Record) -> u32 {
+    let (code, size) = random.pick(&PAGES);
+    let code = u32::from(code);
+    record.value = match random.below(8) {
+        0 => code ^ 1 << random.below(32),
+        1 => random.pick(&[0x01, 0x82, 0x100, 0x180, 0x8000_0000, 0x8000_0083, u32::MAX]),
+        _ => code,
+    };
+    size.into()
 }
 
 /// What a number is over its bound; the largest wraps it to just below.

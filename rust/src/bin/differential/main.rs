@@ -13,15 +13,20 @@ mod coverage;
 mod damage;
 mod event;
 mod host;
+mod inquiry;
 mod invent;
 mod large_media;
 mod media;
 mod medium_size;
 mod own;
+mod page_field;
+mod page_record;
 mod pair;
+mod product_page;
 mod random;
 mod record_size;
 mod requests;
+mod table;
 mod trial;
 
 use coverage::Coverage;
@@ -114,9 +119,11 @@ impl Run {
         println!("  {:<34}{:>9}", "events on records not fitting", damage.unfit);
         println!("  {:<34}{:>9}", "events on records that fit", damage.fit);
         damage.sizes.print();
+        damage.pages.print();
         println!("\ntime: {:.1} s", started.elapsed().as_secs_f64());
         let mut missing = self.coverage.missing();
         missing.extend(self.damage.sizes.missing());
+        missing.extend(self.damage.pages.missing());
         if missing.is_empty() {
             Ok(())
         } else {

@@ -94,6 +94,14 @@ pub fn reading(blocks: usize, wrapper: &[u8], asks: usize) -> Record {
     device.to_record()
 }
 
+/// The state after the wrapper of an Inquiry for page 80, the unit serial.
+fn page_due() -> Record {
+    let mut packet = wrapper(code::INQUIRY, 0, 0);
+    (packet[8], packet[12], packet[14]) = (16, 0x80, 6);
+    packet[15..21].copy_from_slice(&[code::INQUIRY, 0x01, 0x80, 0, 16, 0]);
+    reading(BLOCKS, &packet, 0)
+}
+
 pub fn scenes() -> Vec<Scene> {
     let ready = ready(&medium(BLOCKS)).to_record();
     let (read, write) = (wrapper(code::READ, FIRST, LONG), wrapper(code::WRITE, FIRST, LONG));
@@ -107,6 +115,7 @@ pub fn scenes() -> Vec<Scene> {
         scene("block", "bulk-out data, mean over a block", writing(800), Input::Data(8)),
         scene("wrapper", "command wrapper, Read(10)", ready, Input::Wrapper(read)),
         scene("status", "status wrapper", reading(1024), Input::Ask),
+        scene("page", "bulk-in reply, product page 80", page_due(), Input::Ask),
         scene(
             "descriptor",
             "control, Get Descriptor (device)",

@@ -10,6 +10,9 @@ enum-told c = search needs
 enum-told-2 : tie.Need-enum-told-2
 enum-told-2 c = search needs
 
+enum-known-kind : tie.Need-enum-known-kind
+enum-known-kind c = search needs
+
 enum-told-3 : tie.Need-enum-told-3
 enum-told-3 c = search needs
 
@@ -26,13 +29,17 @@ returns-2 c = simp (c .enum-told2 .given .1)
 
 returns-3 : tie.Need-returns-3
 unfolding replyOf
-returns-3 c = simp (c .enum-told3 .given .1)
+returns-3 c = simp (c .before .kind .given .1)
 
 returns-4 : tie.Need-returns-4
 unfolding replyOf
-returns-4 c = simp (c .enum-told4 .given .1)
+returns-4 c = simp (c .enum-told3 .given .1)
+
+returns-5 : tie.Need-returns-5
+unfolding replyOf
+returns-5 c = simp (c .enum-told4 .given .1)
 
 pub reply-of-spec : {M : Type 1} → statement M
 reply-of-spec =
     tie.close
-    (tie.spec enum-told enum-told-2 enum-told-3 enum-told-4 returns returns-2 returns-3 returns-4)
+    (tie.spec enum-told enum-told-2 enum-known-kind enum-told-3 enum-told-4 returns returns-2 returns-3 returns-4 returns-5)

@@ -6,7 +6,7 @@ use Rattle.wire.specs.Choice.{if_then_else_}
 use Rattle.wire.specs.Slices.{fits}
 use Rattle.scsi.specs.Reply.{replyPacket}
 use Rattle.machine.specs.Bulk.{inStage, packetIn}
-use Rattle.bulk.proofs.Running.{small, sending, replying}
+use Rattle.bulk.proofs.Running.{small, sending, replying, at-reply}
 use Rattle.wire.proofs.Packets.{held}
 use Rattle.scsi.proofs.Replies.{reply-short}
 use borrow.Author.Needs.{needs}
@@ -15,13 +15,13 @@ use Rattle.bulk.proofs.inward.packet_in.Tie as tie
 
 returns : tie.Need-returns
 unfolding packetIn inStage if_then_else_
-returns c = λ i p. simp (c .if1 .taken)
+returns c = λ p. simp (c .if1 .taken)
 
 enum-known-stage : tie.Need-enum-known-stage
 enum-known-stage c = search needs
 
-add-t22 : tie.Need-add-t22
-add-t22 c =
+add-next : tie.Need-add-next
+add-next c =
     let w = sending _ _ _ _ (c .before .before .before .before .before .before .before .before .pre .0) (c .before .stage .given .1) in
     let a = w .within in
     let s = small _ _ (c .before .before .before .before .before .before .before .before .pre .0) in
@@ -39,11 +39,11 @@ on-ask-requires c κs =
 enum-known-stage-2 : tie.Need-enum-known-stage-2
 enum-known-stage-2 c = search needs
 
-add-t26 : tie.Need-add-t26
-add-t26 c =
-    let w = replying _ _ _ _ _ (c .before .before .before .before .before .before .before .before .pre .0) (c .before .stage2 .given .1) in
+add-next-2 : tie.Need-add-next-2
+add-next-2 c =
+    let w = replying _ _ 0 _ _ _ (c .before .before .before .before .before .before .before .before .pre .0) (c .before .stage2 .given .1) in
     let a = w .within in
-    let l = reply-short (c .before .stage2 .given .0 .0) in
+    let l = reply-short 0 (c .before .stage2 .given .0 .0) in
     record { fits = omega arith }
 
 rest-requires-2 : tie.Need-rest-requires-2
@@ -55,20 +55,20 @@ reply-bytes-requires c κs = search needs
 array-share-prefix-bytes : tie.Need-array-share-prefix-bytes
 unfolding replyPacket
 array-share-prefix-bytes c =
-    let h = held _ _ (c .before .reply-bytes .ensures) (reply-short (c .before .before .before .before .stage2 .given .0 .0)) in
+    let h = held _ _ (c .before .reply-bytes .ensures) (reply-short _ (c .before .before .before .before .stage2 .given .0 .0)) in
     h .room
 
 slice-aggregate-on-ask : tie.Need-slice-aggregate-on-ask
 unfolding replyPacket
 slice-aggregate-on-ask c =
-    let h = held _ _ (c .before .before .reply-bytes .ensures) (reply-short (c .before .before .before .before .before .stage2 .given .0 .0)) in
+    let h = held _ _ (c .before .before .reply-bytes .ensures) (reply-short _ (c .before .before .before .before .before .stage2 .given .0 .0)) in
     h .count ∙ ap length (sym (h .is))
 
 on-ask-requires-2 : tie.Need-on-ask-requires-2
 unfolding replyPacket
 on-ask-requires-2 c κs =
-    let h = held _ _ (c .before .before .before .reply-bytes .ensures) (reply-short (c .before .before .before .before .before .before .stage2 .given .0 .0)) in
-    let w = replying _ _ _ _ _ (c .before .before .before .before .before .before .before .before .before .before .before .before .before .pre .0) (c .before .before .before .before .before .before .stage2 .given .1) in
+    let h = held _ _ (c .before .before .before .reply-bytes .ensures) (reply-short _ (c .before .before .before .before .before .before .stage2 .given .0 .0)) in
+    let w = replying _ _ (c .before .before .before .before .before .before .before .before .before .before .before .before .before .args .identity .number) _ _ _ (c .before .before .before .before .before .before .before .before .before .before .before .before .before .pre .0) (c .before .before .before .before .before .before .stage2 .given .1) in
     let l = ap length (h .is) in
     (omega (arith, w .within), w .due, c .before .before .before .before .before .before .before .before .before .before .before .before .before .pre .1)
 
@@ -90,17 +90,18 @@ same-length c = search needs
 returns-2 : tie.Need-returns-2
 unfolding packetIn inStage if_then_else_
 returns-2 c =
-    λ i p. simp (c .before .before .before .before .before .before .before .before .if1 .left, c .before .before .before .before .before .before .stage .given .1, sym (c .before .before .before .before .rest .ensures)) (c .before .before .on-ask .ensures i p)
+    λ p. simp (c .before .before .before .before .before .before .before .before .if1 .left, c .before .before .before .before .before .before .stage .given .1, sym (c .before .before .before .before .rest .ensures)) (c .before .before .on-ask .ensures _ p)
 
 same-length-2 : tie.Need-same-length-2
 same-length-2 c = search needs
 
 returns-3 : tie.Need-returns-3
-unfolding packetIn inStage if_then_else_ replyPacket
+unfolding replyPacket
 returns-3 c =
-    λ i p.
-    let h = held _ _ (c .before .before .before .before .before .before .reply-bytes .ensures) (reply-short (c .before .before .before .before .before .before .before .before .before .stage2 .given .0 .0)) in
-    simp (c .before .before .before .before .before .before .before .before .before .before .before .if1 .left, c .before .before .before .before .before .before .before .before .before .stage2 .given .1, sym (c .before .before .before .before .before .before .before .rest2 .ensures), sym (h .is)) (c .before .before .on-ask2 .ensures i p)
+    λ p.
+    let h = held _ _ (c .before .before .before .before .before .before .reply-bytes .ensures) (reply-short _ (c .before .before .before .before .before .before .before .before .before .stage2 .given .0 .0)) in
+    c .before .before .on-ask2 .ensures _ p
+    ∙ at-reply _ _ _ _ _ _ _ _ (c .before .before .before .before .before .before .before .before .before .before .before .if1 .left) (c .before .before .before .before .before .before .before .before .before .stage2 .given .1) (h .is) (c .before .before .before .before .before .before .before .rest2 .ensures)
 
 same-length-3 : tie.Need-same-length-3
 same-length-3 c = search needs
@@ -108,15 +109,15 @@ same-length-3 c = search needs
 returns-4 : tie.Need-returns-4
 unfolding packetIn inStage if_then_else_
 returns-4 c =
-    λ i p. simp (c .before .before .before .before .before .before .before .if1 .left, c .before .before .before .before .before .stage3 .given .1) (c .before .before .on-status .ensures i p)
+    λ p. simp (c .before .before .before .before .before .before .before .if1 .left, c .before .before .before .before .before .stage3 .given .1) (c .before .before .on-status .ensures _ p)
 
 returns-5 : tie.Need-returns-5
 unfolding packetIn inStage if_then_else_
-returns-5 c = λ i p. simp (c .before .before .if1 .left, c .enum-told .given .1)
+returns-5 c = λ p. simp (c .before .before .if1 .left, c .enum-told .given .1)
 
 returns-6 : tie.Need-returns-6
 unfolding packetIn inStage if_then_else_
-returns-6 c = λ i p. simp (c .before .before .if1 .left, c .enum-told2 .given .1)
+returns-6 c = λ p. simp (c .before .before .if1 .left, c .enum-told2 .given .1)
 
 pub packet-in-spec : {M : Type 1} → statement M
 packet-in-spec =
@@ -124,11 +125,11 @@ packet-in-spec =
     (tie.spec
     returns
     enum-known-stage
-    add-t22
+    add-next
     rest-requires
     on-ask-requires
     enum-known-stage-2
-    add-t26
+    add-next-2
     rest-requires-2
     reply-bytes-requires
     array-share-prefix-bytes

@@ -48,7 +48,7 @@ returns-2 : tie.Need-returns-2
 returns-2 c =
     λ p.
     let a = c .before .before .before .before .before .before .before .before .before .before .before .before .args in
-    ap (λ (r : Reaction). told (beside (a .medium .now) r)) (c .before .before .packet-in .ensures (a .identity) p)
+    ap (λ (r : Reaction). told (beside (a .medium .now) r)) (c .before .before .packet-in .ensures p)
     ∙ ap told (sym (open-in (device (a .identity) (a .state) p) (a .medium .now) (a .buffer .now) (goes-on _ _ (c .before .before .before .before .enum-told .given .1) (simp (c .before .before .before .before .before .before .before .fits2 .ensures) at (c .before .before .before .before .before .before .admit .ensures)))))
 
 pub in-parts-spec : {M : Type 1} → statement M

@@ -24,6 +24,9 @@ no-numbers-requires-3 c κs = search needs
 no-numbers-requires-4 : tie.Need-no-numbers-requires-4
 no-numbers-requires-4 c κs = search needs
 
+is-page-requires : tie.Need-is-page-requires
+is-page-requires c κs = search needs
+
 returns : tie.Need-returns
 unfolding formOf look if_then_else_
 returns c = c .no-numbers .ensures ∙ at-stage 0 _ _ _ _ (c .before .match .keys1)
@@ -65,8 +68,12 @@ unfolding formOf look if_then_else_
 returns-10 c = c .no-numbers4 .ensures ∙ at-stage 9 _ _ _ _ (c .before .match .keys10)
 
 returns-11 : tie.Need-returns-11
+unfolding formOf look if_then_else_
+returns-11 c = c .is-page .ensures ∙ at-stage 10 _ _ _ _ (c .before .match .keys11)
+
+returns-12 : tie.Need-returns-12
 unfolding formOf if_then_else_
-returns-11 c = simp (look-rest (c .before .args .flat .stage) Unit forms noForm (c .match .rest))
+returns-12 c = simp (look-rest (c .before .args .flat .stage) Unit forms noForm (c .match .rest))
 
 pub stage-decodes-spec : {M : Type 1} → statement M
 stage-decodes-spec =
@@ -76,6 +83,7 @@ stage-decodes-spec =
     no-numbers-requires-2
     no-numbers-requires-3
     no-numbers-requires-4
+    is-page-requires
     returns
     returns-2
     returns-3
@@ -86,4 +94,5 @@ stage-decodes-spec =
     returns-8
     returns-9
     returns-10
-    returns-11)
+    returns-11
+    returns-12)

@@ -1,6 +1,6 @@
 -- `stage_from` meets its contract: an arm is the table's row. Assumes nothing.
 use Prim.Native.Nat.{ℕ}
-use mathlib.Core.Path.{_≡_, sym, ap}
+use mathlib.Core.Path.{_≡_, sym, ap, _∙_}
 use borrow.Author.Needs.{needs}
 use Rattle.wire.specs.Choice.{if_then_else_, look}
 use Rattle.wire.proofs.Cases.{look-rest}
@@ -14,6 +14,9 @@ at-stage k n p l v e = ap (λ (j : ℕ). formOf j .stage p l v) (sym e)
 
 sense-from-requires : tie.Need-sense-from-requires
 sense-from-requires c κs = search needs
+
+page-stage-requires : tie.Need-page-stage-requires
+page-stage-requires c κs = search needs
 
 returns : tie.Need-returns
 unfolding formOf look if_then_else_
@@ -56,14 +59,19 @@ unfolding formOf look if_then_else_
 returns-10 c = at-stage 9 _ _ _ _ (c .match .keys10)
 
 returns-11 : tie.Need-returns-11
+unfolding formOf look if_then_else_
+returns-11 c = c .page-stage .ensures ∙ at-stage 10 _ _ _ _ (c .before .match .keys11)
+
+returns-12 : tie.Need-returns-12
 unfolding formOf if_then_else_
-returns-11 c = simp (look-rest (c .before .args .flat .stage) Unit forms noForm (c .match .rest))
+returns-12 c = simp (look-rest (c .before .args .flat .stage) Unit forms noForm (c .match .rest))
 
 pub stage-from-spec : {M : Type 1} → statement M
 stage-from-spec =
     tie.close
     (tie.spec
     sense-from-requires
+    page-stage-requires
     returns
     returns-2
     returns-3
@@ -74,4 +82,5 @@ stage-from-spec =
     returns-8
     returns-9
     returns-10
-    returns-11)
+    returns-11
+    returns-12)

@@ -30,6 +30,12 @@ slice-aggregate-packet-of-2 c = search needs
 packet-of-requires-2 : tie.Need-packet-of-requires-2
 packet-of-requires-2 c κs = search needs
 
+enum-known-reply-2 : tie.Need-enum-known-reply-2
+enum-known-reply-2 c = search needs
+
+page-bytes-requires : tie.Need-page-bytes-requires
+page-bytes-requires c κs = search needs
+
 enum-told-2 : tie.Need-enum-told-2
 enum-told-2 c = search needs
 
@@ -39,8 +45,8 @@ slice-aggregate-packet-of-3 c = search needs
 packet-of-requires-3 : tie.Need-packet-of-requires-3
 packet-of-requires-3 c κs = search needs
 
-enum-known-reply-2 : tie.Need-enum-known-reply-2
-enum-known-reply-2 c = search needs
+enum-known-reply-3 : tie.Need-enum-known-reply-3
+enum-known-reply-3 c = search needs
 
 capacity-data-requires : tie.Need-capacity-data-requires
 capacity-data-requires c κs = search needs
@@ -60,12 +66,16 @@ unfolding replyPacket
 returns-2 c = simp (c .before .before .before .enum-told .given .1) (c .packet-of2 .ensures ∙ ap packetOf (c .before .before .inquiry-data .ensures))
 
 returns-3 : tie.Need-returns-3
-unfolding replyPacket modeData
-returns-3 c = simp (c .before .before .enum-told2 .given .1) (c .packet-of3 .ensures)
+unfolding replyPacket
+returns-3 c = simp (c .before .before .reply2 .given .1) (c .page-bytes .ensures)
 
 returns-4 : tie.Need-returns-4
+unfolding replyPacket modeData
+returns-4 c = simp (c .before .before .enum-told2 .given .1) (c .packet-of3 .ensures)
+
+returns-5 : tie.Need-returns-5
 unfolding replyPacket
-returns-4 c = simp (c .before .before .before .before .reply2 .given .1) (c .packet-of4 .ensures ∙ ap packetOf (c .before .before .capacity-data .ensures))
+returns-5 c = simp (c .before .before .before .before .reply3 .given .1) (c .packet-of4 .ensures ∙ ap packetOf (c .before .before .capacity-data .ensures))
 
 pub reply-bytes-spec : {M : Type 1} → statement M
 reply-bytes-spec =
@@ -79,14 +89,17 @@ reply-bytes-spec =
     inquiry-data-requires
     slice-aggregate-packet-of-2
     packet-of-requires-2
+    enum-known-reply-2
+    page-bytes-requires
     enum-told-2
     slice-aggregate-packet-of-3
     packet-of-requires-3
-    enum-known-reply-2
+    enum-known-reply-3
     capacity-data-requires
     slice-aggregate-packet-of-4
     packet-of-requires-4
     returns
     returns-2
     returns-3
-    returns-4)
+    returns-4
+    returns-5)

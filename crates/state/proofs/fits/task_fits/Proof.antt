@@ -26,6 +26,9 @@ in-fits-requires c κs = search needs
 enum-known-stage-3 : tie.Need-enum-known-stage-3
 enum-known-stage-3 c = search needs
 
+kind-of-requires : tie.Need-kind-of-requires
+kind-of-requires c κs = search needs
+
 reply-size-requires : tie.Need-reply-size-requires
 reply-size-requires c κs = search needs
 
@@ -53,7 +56,7 @@ returns-3 c = simp (c .before .before .stage2 .given .1) (c .in-fits .ensures)
 returns-4 : tie.Need-returns-4
 unfolding taskFits outFits inFits
 returns-4 c =
-    simp (c .before .before .before .stage3 .given .1, sym (c .before .reply-size .ensures)) (c .in-fits2 .ensures)
+    simp (c .before .before .before .before .stage3 .given .1, sym (c .before .before .kind-of .ensures), sym (c .before .reply-size .ensures)) (c .in-fits2 .ensures)
 
 returns-5 : tie.Need-returns-5
 unfolding taskFits outFits inFits
@@ -70,6 +73,7 @@ task-fits-spec =
     mul-in-fits
     in-fits-requires
     enum-known-stage-3
+    kind-of-requires
     reply-size-requires
     cast-in-fits
     in-fits-requires-2

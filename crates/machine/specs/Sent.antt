@@ -1,0 +1,61 @@
+-- What is sent of a reply or product page (document 02, A2): the first min(allocated, size) bytes of the whole; of page 80, the serial that USB tells. Proved in proofs/Sent.antt.
+use Prim.Native.Nat.{ℕ, _*_, _-_, _≤_, _<_, min}
+use mathlib.Core.Path.{_≡_}
+use mathlib.Core.Bool.{true, false}
+use mathlib.Core.List.{List}
+use lib.ListN.{length, take, drop}
+use Rattle.wire.specs.Slices.{placed}
+use Rattle.scsi.specs.Command.{cut, planOf}
+use Rattle.scsi.specs.Page.{pageData}
+use Rattle.scsi.specs.Reply.{replyData}
+use Rattle.scsi.specs.declared.page.Page.the-variants as page
+use Rattle.scsi.specs.declared.reply.ReplyKind.{ReplyKind}
+use Rattle.bot.specs.Cbw.{headerOf}
+use Rattle.bot.specs.declared.csw.Status.the-variants.{Passed}
+use Rattle.usb.specs.Descriptor.{stringDescriptor, descriptorData}
+use Rattle.usb.specs.declared.descriptor.Identity.{Identity}
+use Rattle.usb.specs.declared.descriptor.Descriptor.the-variants as descriptor
+use Rattle.machine.specs.declared.record.Stage.the-variants.{StatusDue}
+use Rattle.machine.specs.declared.record.Device.{Device}
+use Rattle.machine.specs.declared.answer.Answer.the-variants.{Data}
+use Rattle.machine.specs.Fits.{blockSize, fits}
+use Rattle.machine.specs.Wrapper.{accepted}
+use Rattle.machine.specs.Begin.{replyOf}
+use Rattle.machine.specs.Bulk.{packetSize}
+use Rattle.machine.specs.Machine.{bulkOut, bulkIn, Out, step}
+use Rattle.machine.specs.Beside.{IsDue}
+
+-- The whole of a reply to a wrapper taken now.
+abbrev pub whole : Device → ReplyKind → List ℕ
+whole d k = replyData (d .identity .number) (replyOf k (d .state .unit))
+
+abbrev pub first : ℕ → List ℕ → List ℕ
+first allocated s = take (min allocated (length s)) s
+
+-- An accepted wrapper for a reply that is cut to so many bytes, where both pipes are open, and the host takes what is sent.
+pub record Asks (d : Device) (m w : List ℕ) (k : ReplyKind) (allocated : ℕ) : Type 0 where
+  pub fit : fits (d .identity) (d .state) ≡ true
+  pub medium : length m ≡ blockSize * d .state .unit .blocks
+  pub due : IsDue d
+  pub haltin : d .state .link .haltin ≡ false
+  pub accepts : accepted w ≡ true
+  pub plan : planOf (drop 15 w) (d .state .unit .blocks) ≡ cut k allocated
+  pub inward : headerOf w .inward ≡ true
+  pub some : 0 < length (first allocated (whole d k))
+  pub room : length (first allocated (whole d k)) ≤ headerOf w .announced
+
+-- These bytes are in the buffer, the residue is less by them, and nothing but the status follows.
+pub record Sends (o : Out) (s b : List ℕ) (announced : ℕ) : Type 0 where
+  pub answer : o .answer ≡ Data (length s)
+  pub buffer : o .buffer ≡ placed b 0 s
+  pub residue : o .dev .state .link .task .residue ≡ announced - length s
+  pub over : o .dev .state .link .task .stage ≡ StatusDue Passed
+
+abbrev pub CutReplies : Type 0
+CutReplies =
+    (d : Device) (m w b : List ℕ) (k : ReplyKind) (allocated : ℕ) → Asks d m w k allocated → packetSize ≤ length b
+    → Sends (step (step d m (bulkOut w) .dev) m (bulkIn b)) (first allocated (whole d k)) b (headerOf w .announced)
+
+-- "Page 80 carries the same twelve digits as the USB string": all that follows its four bytes in front.
+abbrev pub SameSerial : Type 0
+SameSerial = (i : Identity) → descriptorData descriptor.Serial i ≡ stringDescriptor (drop 4 (pageData (i .number) page.Serial))

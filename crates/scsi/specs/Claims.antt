@@ -1,0 +1,37 @@
+-- What is claimed of replies and pages. Proved in proofs/Replies.antt, proofs/Pages.antt and proofs/Plans.antt.
+use Prim.Native.Nat.{ℕ, _<_, _^_}
+use mathlib.Core.Path.{_≡_}
+use mathlib.Core.List.{[], _∷_, _++_}
+use lib.ListN.{length}
+use Rattle.wire.specs.Numbers.{big}
+use Rattle.wire.specs.Texts.{ascii, serialText}
+use Rattle.scsi.specs.declared.command.Plan.the-variants.{Failed}
+use Rattle.scsi.specs.declared.page.Page.{Page}
+use Rattle.scsi.specs.declared.page.Page.the-variants.{Supported, Serial, Identification}
+use Rattle.scsi.specs.declared.page.Listed.the-variants.{Missing}
+use Rattle.scsi.specs.declared.reply.ReplyKind.the-variants as kind
+use Rattle.scsi.specs.declared.reply.Reply.{Reply}
+use Rattle.scsi.specs.Sense.{invalidField}
+use Rattle.scsi.specs.Page.{pageCode, pageOf, pageData}
+use Rattle.scsi.specs.Command.{cut, planOf}
+use Rattle.scsi.specs.Reply.{replyData, kindOf, replySize}
+
+-- The whole of a reply is as long as its size says, whatever its values and the collector number.
+abbrev pub Sizes : Type 0
+Sizes = (number : ℕ) (r : Reply) → length (replyData number r) ≡ replySize (kindOf r)
+
+-- With EVPD set: a page that is served is cut to the allocation length, "other pages fail 05/24/00" whatever that is.
+pub record PagesServed : Type 0 where
+  pub page : (p : Page) (hi lo blocks : ℕ) → planOf (0x12 ∷ 0x01 ∷ pageCode p ∷ hi ∷ lo ∷ 0x00 ∷ []) blocks ≡ cut (kind.Page p) (big (hi ∷ lo ∷ []))
+  pub other : (code hi lo blocks : ℕ) → pageOf code ≡ Missing → planOf (0x12 ∷ 0x01 ∷ code ∷ hi ∷ lo ∷ 0x00 ∷ []) blocks ≡ Failed invalidField
+
+-- The three pages' bytes, in full.
+pub record PageBytes : Type 0 where
+  pub page-00 : (number : ℕ) → pageData number Supported ≡ (0x00 ∷ 0x00 ∷ 0x00 ∷ 0x03 ∷ 0x00 ∷ 0x80 ∷ 0x83 ∷ [])
+  pub page-80 : (number : ℕ) → pageData number Serial ≡ (0x00 ∷ 0x80 ∷ 0x00 ∷ 0x0C ∷ serialText number)
+  pub page-83 : (number : ℕ) → pageData number Identification ≡ (0x00 ∷ 0x83 ∷ 0x00 ∷ 0x18 ∷ 0x02 ∷ 0x01 ∷ 0x00 ∷ 0x14 ∷ ascii "COLLECT " ++ serialText number)
+
+-- "two collector numbers give the same page 80 only if they are equal" (document 02, A2), and page 83 too
+pub record Serials : Type 0 where
+  pub page-80 : (x y : ℕ) → x < 10 ^ 12 → y < 10 ^ 12 → pageData x Serial ≡ pageData y Serial → x ≡ y
+  pub page-83 : (x y : ℕ) → x < 10 ^ 12 → y < 10 ^ 12 → pageData x Identification ≡ pageData y Identification → x ≡ y
