@@ -1,15 +1,18 @@
--- How much the thirteen cases move, and when the halt comes: the claim of specs/Claims.antt. Assumes nothing.
-use Prim.Native.Nat.{ℕ, _≤_}
-use mathlib.Core.Path.{_≡_, refl, sym, ap, subst}
+-- How much the thirteen cases move, and when the halt comes: the claim of specs/Claims.antt, and two laws by name. Assumes nothing.
+use Prim.Native.Nat.{ℕ, _≤_, _<_}
+use mathlib.Core.Path.{_≡_, refl, sym, subst}
+use mathlib.Core.Bool.{Bool, true, false}
 use native.Mathlib.Omega.{arith}
 use lib.Dec.{ltb, eqb}
-use borrow.Author.Tests.{ltb-true, eqb-true}
+use borrow.Author.Tests.{ltb-true, ltb-false, eqb-true, eq-eqb, ne-eqb}
+use Rattle.wire.specs.Choice.{if_then_else_}
 use Rattle.wire.proofs.Cases.{by-if, if-true, if-false}
 use Rattle.cases.specs.declared.Transfer.{Transfer}
 use Rattle.cases.specs.declared.Transfer.the-variants.{None, In, Out}
 use Rattle.cases.specs.declared.Pipe.{Pipe}
+use Rattle.cases.specs.declared.Pipe.the-variants as pipe
+use Rattle.cases.specs.declared.Ending.the-variants.{Command}
 use Rattle.cases.specs.declared.Halt.{Halt}
-use Rattle.cases.specs.declared.Case.{Case}
 use Rattle.cases.specs.Cases.{plain, sameWay, counted, meeting, caseOf}
 use Rattle.cases.specs.Claims.{amount, isAfterData, afterData, Follows, no-data, no-match, all-in, all-out, CasesFollow}
 
@@ -44,3 +47,39 @@ unfolding caseOf
 cases-follow host has =
     subst (λ (a : ℕ). Follows a (amount has) (caseOf host has)) (counts host)
     (subst (λ (a : ℕ). Follows (amount (counted host)) a (caseOf host has)) (counts has) (meets (counted host) (counted has)))
+
+-- ---- what follows where host and device name one pipe, and where the device has nothing
+
+abbrev pub over : Pipe → ℕ → Transfer
+over pipe.In n = In n
+over pipe.Out n = Out n
+
+some : (p : Pipe) (n : ℕ) → 0 < n → counted (over p n) ≡ over p n
+unfolding counted
+some pipe.In n h = if-false _ _ _ (ne-eqb n 0 (λ e. omega arith))
+some pipe.Out n h = if-false _ _ _ (ne-eqb n 0 (λ e. omega arith))
+
+-- no more than is announced: all of it moves
+enough : (p : Pipe) (a n : ℕ) (t : Transfer) (b : Bool) → n ≤ a → ltb n a ≡ b → sameWay p a n t ≡ plain t (afterData p a n)
+unfolding sameWay afterData if_then_else_
+enough p a n t true l e = simp e
+enough p a n t false l e = let g = ltb-false n a e in let q : n ≡ a = omega arith in simp (e, eq-eqb n a q)
+
+all-of : (p : Pipe) (a n : ℕ) → n ≤ a → meeting (over p a) (over p n) ≡ plain (over p n) (afterData p a n)
+unfolding meeting
+all-of pipe.In a n l = enough pipe.In a n (In n) (ltb n a) l refl
+all-of pipe.Out a n l = enough pipe.Out a n (Out n) (ltb n a) l refl
+
+pub all-moves : (p : Pipe) (a n : ℕ) → 0 < n → n ≤ a → caseOf (over p a) (over p n) ≡ plain (over p n) (afterData p a n)
+unfolding caseOf
+all-moves p a n h l = rw (some p a (omega arith)) (rw (some p n h) (all-of p a n l))
+
+-- nothing to send: no data moves, and the status is the command's own
+pub none-moves : (t : Transfer) → (caseOf t (In 0) .moves ≡ None) × (caseOf t (In 0) .ending ≡ Command)
+unfolding caseOf counted meeting if_then_else_
+none-moves t = alone (counted t)
+  where
+    alone : (t : Transfer) → (meeting t None .moves ≡ None) × (meeting t None .ending ≡ Command)
+    alone None = (refl, refl)
+    alone (In n) = (refl, refl)
+    alone (Out n) = (refl, refl)

@@ -6,7 +6,7 @@ use mathlib.Core.List.{List, []}
 use native.Mathlib.Omega.{arith}
 use lib.Dec.{ltb}
 use lib.ListN.{length, take, drop, length-take}
-use borrow.Author.Tests.{ltb-false, eq-eqb, ne-eqb, le-leb}
+use borrow.Author.Tests.{eq-eqb, ne-eqb, le-leb}
 use Rattle.wire.specs.Choice.{if_then_else_}
 use Rattle.wire.specs.Slices.{placed}
 use Rattle.wire.proofs.Cases.{both, by-if, if-true, if-false}
@@ -17,10 +17,11 @@ use Rattle.scsi.specs.declared.command.Plan.the-variants.{Reply}
 use Rattle.scsi.specs.declared.reply.Reply as replies
 use Rattle.scsi.specs.declared.reply.ReplyKind.{ReplyKind}
 use Rattle.scsi.proofs.Pages.{page-bytes}
-use Rattle.scsi.proofs.Replies.{sizes, kind-short}
-use Rattle.cases.specs.Cases.{plain, sameWay, counted, meeting, caseOf}
+use Rattle.scsi.proofs.Replies.{sizes, kind-bounds}
+use Rattle.cases.specs.Cases.{plain, caseOf}
 use Rattle.cases.specs.Claims.{afterData}
 use Rattle.cases.specs.declared.Case.{Case}
+use Rattle.cases.proofs.Moves.{all-moves, none-moves}
 use Rattle.cases.specs.declared.Transfer.{Transfer}
 use Rattle.cases.specs.declared.Transfer.the-variants.{In}
 use Rattle.cases.specs.declared.Pipe.the-variants as pipe
@@ -39,12 +40,12 @@ use Rattle.machine.specs.declared.wrapper.Wrapper.the-variants.{Good}
 use Rattle.machine.specs.declared.answer.Answer.the-variants.{Data, Ack}
 use Rattle.machine.specs.Record.{moved, task, withState}
 use Rattle.machine.specs.Fits.{fits}
-use Rattle.machine.specs.Outcome.{sends, effects}
+use Rattle.machine.specs.Outcome.{sends}
 use Rattle.machine.specs.Wrapper.{accepted, wrapperOf}
-use Rattle.machine.specs.Begin.{hostOf, hasOf, senseOf, replyOf, dataStage, firstStage, haltsIn, haltsOut, sensed, staged, begunBy, begun}
+use Rattle.machine.specs.Begin.{hostOf, hasOf, senseOf, ownStatus, replyOf, dataStage, firstStage, haltsIn, haltsOut, sensed, staged, begunBy, begun}
 use Rattle.machine.specs.Bulk.{onWrapper, outStage, packetOut, nextIn, handedState, handedOut, onAsk, inStage, packetIn}
 use Rattle.machine.specs.Machine.{bulkOut, bulkIn, Out, out, beside, unlent, step, onBulkIn, checks, check, where-lent, judged, inOrder}
-use Rattle.machine.specs.Sent.{whole, first, Asks, Sends, CutReplies, SameSerial}
+use Rattle.machine.specs.Sent.{whole, first, Asks, Takes, Sends, CutReplies, SameSerial}
 use Rattle.machine.proofs.Reach.{same-kind}
 use Rattle.machine.proofs.Beside.{out-passed, fits-after}
 
@@ -58,19 +59,15 @@ same-size d k allocated = length-take (min allocated (length (whole d k))) (whol
 
 -- ---- the wrapper
 
-counts : (n : ℕ) → 0 < n → counted (In n) ≡ In n
-unfolding counted
-counts n h = if-false _ _ _ (ne-eqb n 0 (λ e. omega arith))
-
--- the device has no more than is announced: all of it moves
-agrees : (a n : ℕ) (b : Bool) → n ≤ a → ltb n a ≡ b → meeting (In a) (In n) ≡ plain (In n) (afterData pipe.In a n)
-unfolding meeting sameWay afterData if_then_else_
-agrees a n true l e = simp e
-agrees a n false l e = let g = ltb-false n a e in let q : n ≡ a = omega arith in simp (e, eq-eqb n a q)
-
-meets : (a n : ℕ) → 0 < n → n ≤ a → caseOf (In a) (In n) ≡ plain (In n) (afterData pipe.In a n)
-unfolding caseOf
-meets a n p l = rw (counts a (omega arith)) (rw (counts n p) (agrees a n (ltb n a) l refl))
+taken : (d : Device) (m w : List ℕ) (k : ReplyKind) (allocated : ℕ) → Asks d m w k allocated → step d m (bulkOut w) ≡ out Ack (withState d (begun (headerOf w) (Reply k (min allocated (replySize k))) (d .state))) m []
+unfolding packetOut outStage onWrapper wrapperOf accepted cut
+taken d m w k allocated a =
+    out-passed d m w (a .fit) (a .medium) (let r = readable-long w (both _ _ (a .accepts) .0) in omega arith) (a .due .configured)
+    ∙ ap unlent (
+    if-false _ _ _ (a .due .unhalted)
+    ∙ ap (λ (g : Stage). outStage g d m w) (a .due .ready)
+    ∙ ap (λ (x : Wrapper). onWrapper x d m) (if-true _ _ _ (a .accepts) ∙ ap (Good (headerOf w)) (a .plan))
+    )
 
 -- no halt before the data
 later : (a n : ℕ) (i o : Bool) → (haltsIn (afterData pipe.In a n) i ≡ i) × (haltsOut (afterData pipe.In a n) o ≡ o)
@@ -78,7 +75,7 @@ unfolding afterData haltsIn haltsOut
 later a n i o =
     by-if (λ (h : Halt). (haltsIn h i ≡ i) × (haltsOut h o ≡ o)) (ltb n a) _ _ (λ _. (refl, refl)) (λ _. (refl, refl))
 
--- the record of an accepted wrapper that has a reply
+-- the record of a wrapper whose reply is announced
 abbrev replying : Header → ReplyKind → ℕ → State → State
 replying h k n s = moved s noSense (s .link .haltin) (s .link .haltout) (task (ReplyIn (replyOf k (s .unit)) 0 n) (h .tag) (h .announced) (h .announced))
 
@@ -92,21 +89,15 @@ begins : (h : Header) (k : ReplyKind) (n : ℕ) (s : State) → h .inward ≡ tr
 unfolding begun hostOf hasOf
 begins h k n s i p l =
     ap (λ (t : Transfer). begunBy (caseOf t (In n)) h (Reply k n) s) (if-true _ _ _ i)
-    ∙ ap (λ (c : Case). begunBy c h (Reply k n) s) (meets (h .announced) n p l)
+    ∙ ap (λ (c : Case). begunBy c h (Reply k n) s) (all-moves pipe.In (h .announced) n p l)
     ∙ settles h k n s
 
-taken : (d : Device) (m w : List ℕ) (k : ReplyKind) (allocated : ℕ) (a : Asks d m w k allocated) → step d m (bulkOut w) ≡ out Ack (withState d (replying (headerOf w) k (min allocated (replySize k)) (d .state))) m []
-unfolding packetOut outStage onWrapper wrapperOf accepted cut
-taken d m w k allocated a =
-    let n = min allocated (replySize k) in
-    let e = same-size d k allocated in
-    out-passed d m w (a .fit) (a .medium) (let r = readable-long w (both _ _ (a .accepts) .0) in omega arith) (a .due .configured)
-    ∙ ap unlent (
-    if-false _ _ _ (a .due .unhalted)
-    ∙ ap (λ (g : Stage). outStage g d m w) (a .due .ready)
-    ∙ ap (λ (x : Wrapper). onWrapper x d m) (if-true _ _ _ (a .accepts) ∙ ap (Good (headerOf w)) (a .plan))
-    ∙ ap (λ (s : State). effects Ack (withState d s) m) (begins (headerOf w) k n (d .state) (a .inward) (omega (arith, a .some)) (omega (arith, a .room)))
-    )
+-- of none, the status is due at once
+ended : (h : Header) (k : ReplyKind) (s : State) → begun h (Reply k 0) s .link .task ≡ task (StatusDue Passed) (h .tag) (h .announced) (h .announced)
+unfolding begun begunBy hasOf moved staged firstStage ownStatus
+ended h k s =
+    let q = none-moves (hostOf h) in
+    λ j. task (staged (q .1 j) (q .0 j) (Reply k 0) (s .unit)) (h .tag) (h .announced) (h .announced)
 
 -- ---- the ask
 
@@ -136,30 +127,43 @@ ends : (s : State) (n : ℕ) (g : Stage) → n ≤ 64 → handedState s n n g .l
 unfolding handedState moved nextIn
 ends s n g l = if-true _ _ _ (le-leb n 64 l)
 
-pub cut-replies : CutReplies
+some-sent : (d : Device) (m w b : List ℕ) (k : ReplyKind) (allocated : ℕ) → Asks d m w k allocated → Takes d w (first allocated (whole d k)) → 0 < allocated → 64 ≤ length b
+    → Sends (step (step d m (bulkOut w) .dev) m (bulkIn b)) (first allocated (whole d k)) b (headerOf w .announced)
 unfolding moved handedOut
-cut-replies d m w b k allocated a h =
+some-sent d m w b k allocated a t p h =
     let n = min allocated (replySize k) in
     let s = whole d k in
     let r = replying (headerOf w) k n (d .state) in
     let more = ReplyIn (replyOf k (d .state .unit)) 64 (n - 64) in
     let d₁ = withState d r in
-    let e₁ = taken d m w k allocated a in
-    let f₁ = fits-after d d₁ m [] (bulkOut w) (a .fit) e₁ in
     let size = same-size d k allocated in
-    let short = kind-short k in
-    let l : n ≤ 64 = omega arith in
+    let bounds = kind-bounds k in
+    let low : 0 < n = omega arith in
+    let high : n ≤ 64 = omega arith in
+    let e₁ : step d m (bulkOut w) ≡ out Ack d₁ m [] =
+    taken d m w k allocated a ∙ ap (λ (x : State). out Ack (withState d x) m []) (begins (headerOf w) k n (d .state) (t .inward) low (omega (arith, t .room))) in
+    let f₁ = fits-after d d₁ m [] (bulkOut w) (a .fit) e₁ in
     let e₂ : step d₁ m (bulkIn b) ≡ beside m (sends (take n s) (handedOut d₁ n n more) b) =
-    in-passed d₁ m b f₁ (a .medium) h (a .due .configured)
-    ∙ ap (beside m) (handed d₁ m b (replyOf k (d .state .unit)) n (a .haltin) refl (omega (arith, a .some)) l) in
+    in-passed d₁ m b f₁ (a .medium) h (a .due .configured) ∙ ap (beside m) (handed d₁ m b (replyOf k (d .state .unit)) n (t .haltin) refl low high) in
     let is : take n s ≡ first allocated s = ap (λ (j : ℕ). take (min allocated j) s) (sym (whole-length d k)) in
     subst (λ (o : Out). Sends o (first allocated s) b (headerOf w .announced)) (sym (ap (λ (o : Out). step (o .dev) m (bulkIn b)) e₁ ∙ e₂))
     (record {
       answer = ap (λ (t : List ℕ). Data (length t)) is;
       buffer = ap (placed b 0) is;
       residue = residue-left r n more (length (first allocated s)) size;
-      over = ends r n more l;
+      over = ends r n more high;
     })
+
+none-sent : (d : Device) (m w : List ℕ) (k : ReplyKind) → Asks d m w k 0
+    → step d m (bulkOut w) .dev .state .link .task ≡ task (StatusDue Passed) (headerOf w .tag) (headerOf w .announced) (headerOf w .announced)
+none-sent d m w k a =
+    let z : min 0 (replySize k) ≡ 0 = omega arith in
+    ap (λ (o : Out). o .dev .state .link .task) (taken d m w k 0 a)
+    ∙ ap (λ (n : ℕ). begun (headerOf w) (Reply k n) (d .state) .link .task) z
+    ∙ ended (headerOf w) k (d .state)
+
+pub cut-replies : CutReplies
+cut-replies = record { some = some-sent; none = none-sent }
 
 -- ---- the serial
 

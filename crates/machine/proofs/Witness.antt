@@ -16,16 +16,8 @@ lock-recovered = record { due = (test, refl, refl); unaccepted = refl; unrefused
 pub page-cut : PageCut
 unfolding computes cbw askPage
 page-cut = record {
-  asks = record {
-    fit = refl;
-    medium = refl;
-    due = record { configured = refl; unhalted = refl; ready = refl };
-    haltin = refl;
-    accepts = refl;
-    plan = refl;
-    inward = refl;
-    some = omega arith;
-    room = omega arith;
-  };
+  some = record { fit = refl; medium = refl; due = record { configured = refl; unhalted = refl; ready = refl }; accepts = refl; plan = refl };
+  takes = record { haltin = refl; inward = refl; room = omega arith };
   sent = refl;
+  none = record { fit = refl; medium = refl; due = record { configured = refl; unhalted = refl; ready = refl }; accepts = refl; plan = refl };
 }

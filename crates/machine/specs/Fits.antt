@@ -51,7 +51,8 @@ unfoldable pub lockFits : Link → Bool
 lockFits l = if l .locked then l .haltin and l .haltout else true
 
 -- "a running transfer's blocks lie in the unit, or its reply bytes in the reply; its part block is a multiple of 64 below 512; its bytes still due,
--- a part block's included, are at most its residue, and that, with a status due too, at most the announced length"
+-- a part block's included, are at most its residue, and that, with a status due too, at most the announced length". That a reply's size is how many bytes it
+-- has is `Sizes` in scsi/specs/Claims.antt.
 unfoldable pub outFits : ℕ → ℕ → ℕ → ℕ → ℕ → ℕ → Bool
 outFits blocks block left held announced residue =
     leb (block + left) blocks

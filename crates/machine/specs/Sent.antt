@@ -18,6 +18,7 @@ use Rattle.usb.specs.declared.descriptor.Descriptor.the-variants as descriptor
 use Rattle.machine.specs.declared.record.Stage.the-variants.{StatusDue}
 use Rattle.machine.specs.declared.record.Device.{Device}
 use Rattle.machine.specs.declared.answer.Answer.the-variants.{Data}
+use Rattle.machine.specs.Record.{task}
 use Rattle.machine.specs.Fits.{blockSize, fits}
 use Rattle.machine.specs.Wrapper.{accepted}
 use Rattle.machine.specs.Begin.{replyOf}
@@ -32,17 +33,19 @@ whole d k = replyData (d .identity .number) (replyOf k (d .state .unit))
 abbrev pub first : ℕ → List ℕ → List ℕ
 first allocated s = take (min allocated (length s)) s
 
--- An accepted wrapper for a reply that is cut to so many bytes, where both pipes are open, and the host takes what is sent.
+-- A wrapper is due, and this one is accepted: it has a reply, cut to so many bytes.
 pub record Asks (d : Device) (m w : List ℕ) (k : ReplyKind) (allocated : ℕ) : Type 0 where
   pub fit : fits (d .identity) (d .state) ≡ true
   pub medium : length m ≡ blockSize * d .state .unit .blocks
   pub due : IsDue d
-  pub haltin : d .state .link .haltin ≡ false
   pub accepts : accepted w ≡ true
   pub plan : planOf (drop 15 w) (d .state .unit .blocks) ≡ cut k allocated
+
+-- Bulk-in is not halted, and no fewer bytes are announced inward than these.
+pub record Takes (d : Device) (w s : List ℕ) : Type 0 where
+  pub haltin : d .state .link .haltin ≡ false
   pub inward : headerOf w .inward ≡ true
-  pub some : 0 < length (first allocated (whole d k))
-  pub room : length (first allocated (whole d k)) ≤ headerOf w .announced
+  pub room : length s ≤ headerOf w .announced
 
 -- These bytes are in the buffer, the residue is less by them, and nothing but the status follows.
 pub record Sends (o : Out) (s b : List ℕ) (announced : ℕ) : Type 0 where
@@ -51,10 +54,12 @@ pub record Sends (o : Out) (s b : List ℕ) (announced : ℕ) : Type 0 where
   pub residue : o .dev .state .link .task .residue ≡ announced - length s
   pub over : o .dev .state .link .task .stage ≡ StatusDue Passed
 
-abbrev pub CutReplies : Type 0
-CutReplies =
-    (d : Device) (m w b : List ℕ) (k : ReplyKind) (allocated : ℕ) → Asks d m w k allocated → packetSize ≤ length b
-    → Sends (step (step d m (bulkOut w) .dev) m (bulkIn b)) (first allocated (whole d k)) b (headerOf w .announced)
+pub record CutReplies : Type 0 where
+  pub some : (d : Device) (m w b : List ℕ) (k : ReplyKind) (allocated : ℕ) → Asks d m w k allocated → Takes d w (first allocated (whole d k)) → 0 < allocated → packetSize ≤ length b
+      → Sends (step (step d m (bulkOut w) .dev) m (bulkIn b)) (first allocated (whole d k)) b (headerOf w .announced)
+  -- Allocation length 0: no data, whatever is announced. The status is due at once, and the residue is all that was announced.
+  pub none : (d : Device) (m w : List ℕ) (k : ReplyKind) → Asks d m w k 0
+      → step d m (bulkOut w) .dev .state .link .task ≡ task (StatusDue Passed) (headerOf w .tag) (headerOf w .announced) (headerOf w .announced)
 
 -- "Page 80 carries the same twelve digits as the USB string": all that follows its four bytes in front.
 abbrev pub SameSerial : Type 0

@@ -15,7 +15,7 @@ use Rattle.machine.specs.Machine.{Event, control, bulkOut, bulkIn, step,
 use Rattle.machine.specs.Tally.{Making, writing}
 use Rattle.machine.specs.Claim.{answers, lived, history, setup, recovery, settingUp, WrapperDue, isRefusal, watched}
 use Rattle.machine.specs.Sheet.{cbw, testUnitReady, onBlocks, buffer}
-use Rattle.machine.specs.Sent.{whole, first, Asks}
+use Rattle.machine.specs.Sent.{whole, first, Asks, Takes}
 
 -- A collector of two blocks of zeros.
 abbrev pub two : Making
@@ -80,10 +80,12 @@ pub record LockRecovered : Type 0 where
 
 -- ---- a page that is cut
 
--- Five bytes of page 80 are allocated, and its sixteen announced.
-unfoldable pub askPage : List ℕ
-askPage = cbw 1 16 0x80 0 (0x12 ∷ 0x01 ∷ 0x80 ∷ 0x00 ∷ 0x05 ∷ 0x00 ∷ [])
+-- So many bytes of page 80 are allocated, and its sixteen announced.
+unfoldable pub askPage : ℕ → List ℕ
+askPage most = cbw 1 16 0x80 0 (0x12 ∷ 0x01 ∷ 0x80 ∷ 0x00 ∷ most ∷ 0x00 ∷ [])
 
 pub record PageCut : Type 0 where
-  pub asks : Asks before (zeros 1024) askPage (Page Serial) 5
+  pub some : Asks before (zeros 1024) (askPage 5) (Page Serial) 5
+  pub takes : Takes before (askPage 5) (first 5 (whole before (Page Serial)))
   pub sent : first 5 (whole before (Page Serial)) ≡ (0x00 ∷ 0x80 ∷ 0x00 ∷ 0x0C ∷ 0x30 ∷ [])
+  pub none : Asks before (zeros 1024) (askPage 0) (Page Serial) 0

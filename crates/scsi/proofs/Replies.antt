@@ -1,5 +1,5 @@
 -- Laws of the replies: how long each is, and that none begins as a status wrapper does. Assumes nothing.
-use Prim.Native.Nat.{ℕ, _≤_}
+use Prim.Native.Nat.{ℕ, _≤_, _<_}
 use mathlib.Core.Path.{_≡_, refl}
 use native.Mathlib.Omega.{arith}
 use lib.ListN.{length}
@@ -24,18 +24,22 @@ sizes n (reply.Page p) = page-length n p
 sizes n reply.ModeSense = refl
 sizes n (reply.Capacity blocks) = refl
 
--- a reply is at most one packet
-pub kind-short : (k : ReplyKind) → replySize k ≤ 64
-kind-short kind.Sense = omega arith
-kind-short kind.Inquiry = omega arith
-kind-short (kind.Page page.Supported) = omega arith
-kind-short (kind.Page page.Serial) = omega arith
-kind-short (kind.Page page.Identification) = omega arith
-kind-short kind.ModeSense = omega arith
-kind-short kind.Capacity = omega arith
+-- a reply is not empty, and at most one packet
+pub record Bounds (n : ℕ) : Type 0 where
+  pub low : 0 < n
+  pub high : n ≤ 64
+
+pub kind-bounds : (k : ReplyKind) → Bounds (replySize k)
+kind-bounds kind.Sense = record { low = omega arith; high = omega arith }
+kind-bounds kind.Inquiry = record { low = omega arith; high = omega arith }
+kind-bounds (kind.Page page.Supported) = record { low = omega arith; high = omega arith }
+kind-bounds (kind.Page page.Serial) = record { low = omega arith; high = omega arith }
+kind-bounds (kind.Page page.Identification) = record { low = omega arith; high = omega arith }
+kind-bounds kind.ModeSense = record { low = omega arith; high = omega arith }
+kind-bounds kind.Capacity = record { low = omega arith; high = omega arith }
 
 pub reply-short : (n : ℕ) (r : Reply) → length (replyData n r) ≤ 64
-reply-short n r = rw (sizes n r) (kind-short (kindOf r))
+reply-short n r = rw (sizes n r) (kind-bounds (kindOf r) .high)
 
 -- 55 hex opens a status wrapper of 13 bytes: no reply of that length or more begins with it
 pub reply-opens : (n : ℕ) (r : Reply) → 13 ≤ length (replyData n r) → byteAt (replyData n r) 0 ≡ 0x55 → ⊥
