@@ -108,8 +108,8 @@ static const step script[] = {
     {"Clear Feature, bulk-in", SETUP("\x02\x01\x00\x00\x81\x00\x00\x00"), ACKS},
     {"failed status, residue 512", ASK, CSW("\x05", "\x00\x02\x00\x00", "\x01")},
     {"Request Sense", CBW("\x06", "\x12\x00\x00\x00", HOST_IN, "\x06" "\x03\x00\x00\x00\x12\x00" ZEROS10), ACKS},
-    {"sense 05/21/00", ASK,
-     SENDS("\x70\x00\x05\x00\x00\x00\x00\x0A\x00\x00\x00\x00\x21\x00\x00\x00\x00\x00")},
+    {"sense 05/21/00, block 64", ASK,
+     SENDS("\xF0\x00\x05\x00\x00\x00\x40\x0A\x00\x00\x00\x00\x21\x00\x00\x00\x00\x00")},
     {"Request Sense's status", ASK, CSW("\x06", "\x00\x00\x00\x00", "\x00")},
 
     {"Read block 5 again",

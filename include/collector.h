@@ -59,7 +59,7 @@ extern "C" {
 #define COLLECTOR_FLAG_HALT_OUT 4u
 #define COLLECTOR_FLAG_LOCKED 8u    /* Clear Feature does not free the pipes until the command is dropped */
 
-#define COLLECTOR_RECORD_SIZE 568
+#define COLLECTOR_RECORD_SIZE 576
 #define COLLECTOR_RECORD_ALIGN 8
 
 /*
@@ -78,13 +78,15 @@ typedef struct collector_record {
     uint32_t left;          /* stage 1: blocks still due; 2 to 6 and 10: bytes still due; else 0 */
     uint32_t value;         /* stage 1: bytes held of the next block; 3: the sense that is sent, key + 256 * ASC +
                                65536 * ASCQ; 6: the blocks that are told; 10: the page's code; else 0 */
+    uint32_t extra;         /* stage 3: the information of the sense that is sent; else 0 */
     uint32_t tag;
     uint32_t announced;     /* the transfer length that the host announced */
     uint32_t blocks;        /* the medium's */
+    uint32_t sense_information;     /* of a sense 05/21/00 the first block outside the unit; of others 0 */
     uint8_t stage;
     uint8_t flags;
     uint8_t address;
-    uint8_t sense_key;      /* the unit's sense */
+    uint8_t sense_key;      /* the unit's sense, with sense_information */
     uint8_t sense_asc;
     uint8_t sense_ascq;
     uint8_t reserved1[2];
@@ -119,8 +121,8 @@ _Static_assert(sizeof(collector_answer) == 16, "size of collector_answer");
  * answers the first that fails. A refusal (10 to 15) and NAK and SILENT change no field, block or buffer; reserved bytes are
  * no fields, and a refused making is told below.
  * Any bytes may be handed over as a record. It is answered COLLECTOR_BAD_RECORD where it breaks document 01's rules
- * (number 10), and where flags is over 15, stage over 10, a place, left or value not 0 in a stage that does not use it,
- * value 2^24 or more in stage 3, or value other than 00, 80 or 83 hex in stage 10.
+ * (number 10), and where flags is over 15, stage over 10, a place, left, value or extra not 0 in a stage that does not
+ * use it, value 2^24 or more in stage 3, or value other than 00, 80 or 83 hex in stage 10.
  */
 
 /*

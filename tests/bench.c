@@ -125,6 +125,7 @@ void expect_stage(const bench *bench, uint8_t stage, uint32_t place, uint32_t le
     EQUAL(bench->record.place, place);
     EQUAL(bench->record.left, left);
     EQUAL(bench->record.value, value);
+    EQUAL(bench->record.extra, 0);
 }
 
 void expect_status(bench *bench, const char *residue, uint8_t status)

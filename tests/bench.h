@@ -47,7 +47,7 @@ size_t data_in(bench *bench);
 void wrapper(uint8_t packet[31], uint32_t announced, uint8_t direction, const char *block);
 void command(bench *bench, uint32_t announced, uint8_t direction, const char *block);
 
-/* What the record must hold: of the command in hand; of its stage. */
+/* What the record must hold: of the command in hand; of its stage, which has no extra number. */
 void expect_command(const bench *bench, uint32_t announced, uint32_t residue);
 void expect_stage(const bench *bench, uint8_t stage, uint32_t place, uint32_t left, uint32_t value);
 

@@ -6,6 +6,7 @@
 #include "medium_size.h"
 #include "product_pages.h"
 #include "records.h"
+#include "refused_block.h"
 
 #include <inttypes.h>
 #include <stdio.h>
@@ -13,7 +14,7 @@
 
 static void layout(void)
 {
-    EQUAL(sizeof(collector_record), 568);
+    EQUAL(sizeof(collector_record), 576);
     EQUAL(_Alignof(collector_record), 8);
     EQUAL(sizeof(collector_answer), 16);
     EQUAL(offsetof(collector_answer, number), 0);
@@ -30,18 +31,20 @@ static void layout(void)
     AT(place, 20, 4);
     AT(left, 24, 4);
     AT(value, 28, 4);
-    AT(tag, 32, 4);
-    AT(announced, 36, 4);
-    AT(blocks, 40, 4);
-    AT(stage, 44, 1);
-    AT(flags, 45, 1);
-    AT(address, 46, 1);
-    AT(sense_key, 47, 1);
-    AT(sense_asc, 48, 1);
-    AT(sense_ascq, 49, 1);
-    AT(reserved1, 50, 2);
-    AT(part, 52, 512);
-    AT(reserved2, 564, 4);
+    AT(extra, 32, 4);
+    AT(tag, 36, 4);
+    AT(announced, 40, 4);
+    AT(blocks, 44, 4);
+    AT(sense_information, 48, 4);
+    AT(stage, 52, 1);
+    AT(flags, 53, 1);
+    AT(address, 54, 1);
+    AT(sense_key, 55, 1);
+    AT(sense_asc, 56, 1);
+    AT(sense_ascq, 57, 1);
+    AT(reserved1, 58, 2);
+    AT(part, 60, 512);
+    AT(reserved2, 572, 4);
 #undef AT
 }
 
@@ -236,6 +239,7 @@ static void broken_write(void)
     EQUAL(bench.record.sense_key, 0x0B);
     EQUAL(bench.record.sense_asc, 0x4B);
     EQUAL(bench.record.sense_ascq, 0x00);
+    EQUAL(bench.record.sense_information, 0);
     CHECK(filled(bench.record.part, 512, 0));
     expect_status(&bench, "\x00\x04\x00\x00", 2);
     EQUAL(bench.record.flags, 15);
@@ -325,6 +329,8 @@ int main(void)
     allocation_lengths();
     page_codes();
     page_records();
+    refused_blocks();
+    refused_block_records();
     records_that_do_not_decode();
     records_that_do_not_fit();
     printf("interface: %u checks passed\n", checks);

@@ -5,76 +5,13 @@
 #include "medium_size.h"
 
 #include "bench.h"
+#include "store.h"
 
 #include <stdlib.h>
 #include <string.h>
 
 /* More bytes than 32 bits count. */
 #define ALL (((size_t)1 << 32) + COLLECTOR_BLOCK_SIZE)
-
-enum { CAPACITY = 0x25, READ = 0x28, WRITE = 0x2A, VERIFY = 0x2F };
-
-/* A device over the first bytes of the memory. */
-typedef struct store {
-    collector_record record;
-    uint8_t *medium;
-    size_t length;
-    uint8_t buffer[64];
-} store;
-
-static uint32_t send_to(store *store, const uint8_t *packet, size_t length)
-{
-    return number_of(collector_bulk_out(&store->record, store->medium, store->length, packet, length));
-}
-
-static collector_answer ask_of(store *store)
-{
-    return collector_bulk_in(&store->record, store->medium, store->length, store->buffer, sizeof store->buffer);
-}
-
-static void expect_data(store *store, const void *bytes, size_t count)
-{
-    collector_answer answer = ask_of(store);
-
-    EQUAL(answer.number, COLLECTOR_DATA);
-    EQUAL(answer.count, count);
-    CHECK(memcmp(store->buffer, bytes, count) == 0);
-}
-
-static uint32_t request(store *store, const char *setup)
-{
-    return number_of(collector_control(&store->record, (const uint8_t *)setup, 8, store->buffer, 64));
-}
-
-static void plug(store *store, size_t blocks)
-{
-    store->length = blocks * COLLECTOR_BLOCK_SIZE;
-    EQUAL(number_of(collector_make(&store->record, 42, 1, 2, 3, store->medium, store->length)), COLLECTOR_ACK);
-    EQUAL(store->record.blocks, blocks);
-    EQUAL(request(store, SET_CONFIGURATION), COLLECTOR_ACK);
-}
-
-/* A wrapper that must be accepted: for `count` blocks from `block` on. */
-static void start(store *store, uint8_t code, uint32_t block, uint16_t count, uint32_t announced)
-{
-    uint8_t packet[31], command[10] = {code};
-
-    for (int byte = 0; byte < 4; byte++)
-        command[2 + byte] = (uint8_t)(block >> (24 - 8 * byte));
-    command[7] = (uint8_t)(count >> 8);
-    command[8] = (uint8_t)count;
-    wrapper(packet, announced, code == READ || code == CAPACITY ? 0x80 : 0x00, (const char *)command);
-    EQUAL(send_to(store, packet, sizeof packet), COLLECTOR_ACK);
-}
-
-static void expect_end(store *store, const char *status)
-{
-    expect_data(store, status, 13);
-    EQUAL(store->record.stage, COLLECTOR_STAGE_READY);
-}
-
-#define PASSED "USBS\x01\x02\x03\x04\x00\x00\x00\x00\x00"
-#define FAILED "USBS\x01\x02\x03\x04\x00\x00\x00\x00\x01"
 
 static void served(store *store)
 {

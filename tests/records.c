@@ -5,10 +5,7 @@
 
 #include "bench.h"
 
-enum { STAGES = 11 };
-
-/* A device in each stage, and what its record then holds. */
-static void reach(bench *bench, unsigned stage)
+void reach(bench *bench, unsigned stage)
 {
     configure(bench);
     switch (stage) {
@@ -38,6 +35,7 @@ static void reach(bench *bench, unsigned stage)
         expect_stage(bench, COLLECTOR_STAGE_REQUEST_SENSE, 0, 18, 0x05 + 256 * 0x20);
         EQUAL(bench->record.sense_key, 0x00);
         EQUAL(bench->record.sense_asc, 0x00);
+        EQUAL(bench->record.sense_information, 0);
         return;
     case COLLECTOR_STAGE_INQUIRY:
         command(bench, 64, 0x80, INQUIRY);
@@ -77,8 +75,7 @@ static void reach(bench *bench, unsigned stage)
     }
 }
 
-/* The record is refused by all four events, which change nothing. */
-static void refused(const bench *damaged)
+void refused(const bench *damaged)
 {
     bench bench = *damaged;
 
@@ -101,6 +98,8 @@ static void must_be_zero(const bench *reached, size_t field)
 
 void records_that_do_not_decode(void)
 {
+    bench passed;
+
     for (unsigned stage = 0; stage < STAGES; stage++) {
         bool transfer = (stage >= COLLECTOR_STAGE_DATA_OUT && stage <= COLLECTOR_STAGE_READ_CAPACITY) ||
                         stage == COLLECTOR_STAGE_PAGE;
@@ -125,12 +124,22 @@ void records_that_do_not_decode(void)
         }
         if (!valued)
             must_be_zero(&reached, offsetof(collector_record, value));
+        if (stage != COLLECTOR_STAGE_REQUEST_SENSE)
+            must_be_zero(&reached, offsetof(collector_record, extra));
         for (int bit = 24; bit < 32 && stage == COLLECTOR_STAGE_REQUEST_SENSE; bit++) {
             damaged = reached;
             damaged.record.value |= (uint32_t)1 << bit;
             refused(&damaged);
         }
     }
+    /* The status of a command that passed, no pipe halted: an ask for it does not decode the record. */
+    configure(&passed);
+    command(&passed, 0, 0x00, TEST_UNIT_READY);
+    EQUAL(passed.record.flags, COLLECTOR_FLAG_CONFIGURED);
+    must_be_zero(&passed, offsetof(collector_record, place));
+    must_be_zero(&passed, offsetof(collector_record, left));
+    must_be_zero(&passed, offsetof(collector_record, value));
+    must_be_zero(&passed, offsetof(collector_record, extra));
 }
 
 #define REFUSED_WITH(at_stage, field, with)     \

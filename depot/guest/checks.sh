@@ -58,7 +58,7 @@ reads_at() {
     echo "$at blocks equal"
 }
 
-# raw OPTIONS.. -- BLOCK..: a command block as it stands; what came in is in /tmp/got.
+# raw OPTIONS.. -- BLOCK..: a command block as it stands; what came in is in /tmp/got, what was told, sense data too, in /tmp/raw.
 raw() {
     rm -f /tmp/got
     options=
@@ -67,19 +67,7 @@ raw() {
         shift
     done
     shift
-    sg_raw -t 5 -o /tmp/got $options "/dev/$sg" "$@" >/tmp/raw 2>&1
-}
-
-# sense TEXT raw ..: the command fails, and the sense that Linux fetched says why.
-sense() {
-    text=$1
-    shift
-    "$@" && {
-        echo "the command passed"
-        return 1
-    }
-    echo "no \"$text\": $(grep . /tmp/raw | tail -n 1)"
-    grep -A 1 -i 'illegal request' /tmp/raw | grep -i "$text"
+    sg_raw -v -t 5 -o /tmp/got $options "/dev/$sg" "$@" >/tmp/raw 2>&1
 }
 
 # received N FILE raw ..: the command passes, and brings exactly the N bytes that FILE begins with.

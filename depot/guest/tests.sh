@@ -26,6 +26,17 @@ product_pages() {
     mark "product pages: whole, cut, refused"
 }
 
+# Which block was refused (document 02, A8), of the bench's 64: the number of blocks, or an address behind it, whatever the command.
+range_failures() {
+    check read-over-the-end outside 64 raw -r 5120 -- 28 00 00 00 00 3C 00 00 0A 00
+    check request-sense-again received 18 /depot/no-sense raw -r 18 -- 03 00 00 00 12 00
+    check count-0-past-the-end outside 65 raw -- 28 00 00 00 00 41 00 00 00 00
+    check read-that-wraps outside 4294967280 raw -r 8704 -- 28 00 FF FF FF F0 00 00 11 00
+    check write-over-the-end outside 64 raw -s 1024 -i /depot/bench.data -- 2A 00 00 00 00 3F 00 00 02 00
+    check verify-over-the-end outside 64 raw -- 2F 00 00 00 00 20 00 00 21 00
+    check unknown-code-refused sense "Invalid command operation code" raw -- C0 00 00 00 00 00
+}
+
 # The bench's device (number 42, other numbers 0, 64 zero blocks): its first events become a recording.
 bench_device() {
     plug bench 42 0000 0000 0000 || return
@@ -44,9 +55,10 @@ bench_device() {
     check sg_turs ready
     check sg_requests has "Sense key: No Sense" sg_requests "/dev/$sg"
     check sg_verify verifies 0 64
-    check read-past-the-end sense "Logical block address out of range" raw -r 512 -- 28 00 00 00 00 40 00 00 01 00
+    check read-past-the-end outside 64 raw -r 512 -- 28 00 00 00 00 40 00 00 01 00
     check next-command-after-failure block_0 /depot/bench.before
-    check verify-at-the-32-bits-end sense "Logical block address out of range" raw -- 2F 00 FF FF FF FF 00 00 01 00
+    check verify-at-the-32-bits-end outside 4294967295 raw -- 2F 00 FF FF FF FF 00 00 01 00
+    range_failures
     check link-bit-refused sense "Invalid field in cdb" raw -- 00 00 00 00 00 01
     check naca-bit-refused sense "Invalid field in cdb" raw -r 36 -- 12 00 00 00 24 04
     check link-bit-in-write-refused sense "Invalid field in cdb" raw -s 512 -i /depot/bench.data -- 2A 00 00 00 00 00 00 00 01 01
@@ -82,6 +94,10 @@ transport() {
     check serial-twelve-zeros attribute serial 000000000000
     serials transport
     check transport-clerk clerk_files transport
+    # Document 02's own example: address 120, count 10, 128 blocks.
+    check read-120-count-10 outside 128 raw -r 5120 -- 28 00 00 00 00 78 00 00 0A 00
+    check write-120-count-10 outside 128 raw -s 1024 -i /depot/transport.data -- 2A 00 00 00 00 78 00 00 0A 00
+    check verify-120-count-10 outside 128 raw -- 2F 00 00 00 00 78 00 00 0A 00
     dmesg -c >/dev/null
     echo "$(basename "$usb"):1.0" >/sys/bus/usb/drivers/usb-storage/unbind
     file=$(printf /dev/bus/usb/%03d/%03d "$(cat "$usb/busnum")" "$(cat "$usb/devnum")")
@@ -112,9 +128,11 @@ largest() {
     check largest-writes writes largest
     for place in $places; do check "largest-reads-back-$place" reads_at "largest-$place" after; done
     ask "save largest"
-    check largest-read-past-the-end sense "Logical block address out of range" raw -r 512 -- 28 00 00 10 00 00 00 00 01 00
-    check largest-read-over-the-end sense "Logical block address out of range" raw -r 1024 -- 28 00 00 0F FF FF 00 00 02 00
-    check largest-read-that-wraps sense "Logical block address out of range" raw -r 512 -- 28 00 FF FF FF FF 00 00 01 00
+    check largest-read-past-the-end outside 1048576 raw -r 512 -- 28 00 00 10 00 00 00 00 01 00
+    check largest-read-over-the-end outside 1048576 raw -r 1024 -- 28 00 00 0F FF FF 00 00 02 00
+    check largest-read-that-wraps outside 4294967295 raw -r 512 -- 28 00 FF FF FF FF 00 00 01 00
+    check largest-write-over-the-end outside 1048576 raw -s 1024 -i /depot/largest.data -- 2A 00 00 0F FF FF 00 00 02 00
+    check largest-count-0-past-the-end outside 1048577 raw -- 2F 00 00 10 00 01 00 00 00 00
     check largest-next-command reads_at largest-last after
     mark "1,048,576 blocks: some read, some written and read back"
 }

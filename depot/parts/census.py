@@ -2,21 +2,30 @@
 import struct
 
 from . import log
-from .decode import is_cbw, is_csw
+from .decode import COMMANDS, is_cbw, is_csw
 from .media import LARGEST
 from .replies import product_pages
-from .rules import allocation_length, control_byte, page_code
+from .rules import allocation_length, control_byte, out_of_range, page_code
 
 # The least that the guest's tests provoke, and what the probe adds, which runs under xhci.
 # "control bytes" are wrappers whose control byte is not 0: Linux handed the bits on as sg_raw was given them. In the same way
 # "lengths with byte 3" are wrappers of codes 03, 12 and 1A whose byte 3 is not 0, and "reads past 65,535" and the writes are
-# wrappers in range whose last block is at 65,536 or behind it.
-LEAST = {"devices": 6, "bus resets": 10, "failed": 19, "phase errors": 2, "stalls": 32, "control bytes": 6,
+# wrappers in range whose last block is at 65,536 or behind it. "refused at" are wrappers out of range, with the block that their sense
+# must name (document 02, A8); "senses with a block" are replies that name one.
+LEAST = {"devices": 6, "bus resets": 10, "failed": 27, "phase errors": 2, "stalls": 44, "control bytes": 6,
          "lengths with byte 3": 7, "reads past 65,535": 17, "writes past 65,535": 5,
          "page 00 whole": 6, "page 80 whole": 6, "page 83 whole": 6, "page 00 cut": 4, "page 80 cut": 4, "page 83 cut": 4,
-         "page 80 of 0 bytes": 1, "refused pages": 1, "refused pages of 0 bytes": 1}
-LEAST_WITH_PROBE = {"failed": 272, "phase errors": 4, "lengths with byte 3": 9, "naks": 3, "taken back": 2, "mass storage resets": 5,
-                    "page 00 of 0 bytes": 1, "page 80 of 0 bytes": 2, "page 83 of 0 bytes": 2, "refused pages of 0 bytes": 254}
+         "page 80 of 0 bytes": 1, "refused pages": 1, "refused pages of 0 bytes": 1,
+         "Read refused at 64": 2, "Write refused at 64": 1, "Verify refused at 64": 1, "Read refused at 65": 1,
+         "Read refused at 1048576": 2, "Write refused at 1048576": 1, "Verify refused at 1048577": 1,
+         "Read refused at 4294967280": 1, "Read refused at 4294967295": 1, "Verify refused at 4294967295": 1,
+         "senses with a block": 12, "failures' senses without": 9}
+LEAST_WITH_PROBE = {"failed": 332, "phase errors": 5, "lengths with byte 3": 9, "naks": 3, "taken back": 2, "mass storage resets": 8,
+                    "page 00 of 0 bytes": 1, "page 80 of 0 bytes": 2, "page 83 of 0 bytes": 2, "refused pages of 0 bytes": 254,
+                    "Read refused at 128": 40, "Write refused at 128": 2, "Verify refused at 128": 2, "Read refused at 129": 1,
+                    "Read refused at 16909060": 1, "Write refused at 4294967169": 1,
+                    "Read refused at 4294967295": 2, "Verify refused at 4294967295": 2,
+                    "senses with a block": 29, "cut senses with a block": 17, "failures' senses without": 12}
 PAGE_SIZES = {code: len(page) for code, page in product_pages(0).items()}  # every number's are as long
 
 
@@ -35,11 +44,27 @@ def is_far(block):
     return count > 0 and 65536 < address + count <= LARGEST
 
 
+def refusal(block, blocks):
+    """Which block a command out of range is refused at (document 02, A8). None: it is in range, or has none."""
+    address, count = struct.unpack_from(">IxH", block, 2)
+    if block[0] not in (0x28, 0x2A, 0x2F) or address + count <= blocks:
+        return None
+    return "%s refused at %d" % (COMMANDS[block[0]], out_of_range(address, blocks)[3])
+
+
+def sense_kind(data):
+    """What Request Sense told, by VALID and the key. None: of no failure."""
+    if data[0] & 0x80:
+        return "senses with a block" if len(data) == 18 else "cut senses with a block"
+    return "failures' senses without" if data[2:3] == b"\x05" else None
+
+
 def count(entries):
-    seen = dict.fromkeys([*LEAST, *LEAST_WITH_PROBE], 0)
+    seen, blocks, block = dict.fromkeys([*LEAST, *LEAST_WITH_PROBE], 0), 0, b""
     for entry in entries:
         if isinstance(entry, log.Note):
             seen["devices"] += entry.words[0] == "plugged"
+            blocks = log.blocks(entry) if entry.words[0] == "plugged" else blocks
             seen["taken back"] += entry.words[0] == "cancelled"
             continue
         seen["bus resets"] += entry.kind == 1
@@ -54,9 +79,13 @@ def count(entries):
             seen["lengths with byte 3"] += block[0] in (0x03, 0x12, 0x1A) and block[3] != 0
             seen["reads past 65,535"] += block[0] == 0x28 and is_far(block)
             seen["writes past 65,535"] += block[0] == 0x2A and is_far(block)
+            if refusal(block, blocks) in seen:
+                seen[refusal(block, blocks)] += 1
         if entry.kind == 4 and is_csw(entry.data):
             seen["failed"] += entry.data[12] == 1
             seen["phase errors"] += entry.data[12] == 2
+        elif entry.kind == 4 and entry.data and block[:1] == b"\x03" and sense_kind(entry.data):
+            seen[sense_kind(entry.data)] += 1
     return seen
 
 

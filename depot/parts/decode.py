@@ -70,20 +70,32 @@ def page_reply(code, data):
     return "%d bytes: " % len(data) + data[:head].hex(" ").upper() + behind
 
 
+def counted(data):
+    return "%d byte%s" % (len(data), "" if len(data) == 1 else "s")
+
+
+def sense_reply(data):
+    """Sense data, whole or cut: INFORMATION is told where VALID, byte 0 bit 7, says that it is one (document 02, A8)."""
+    if len(data) < 14:
+        return "%s: %s" % (counted(data), data.hex(" ").upper())
+    information = ", information %d" % struct.unpack_from(">I", data, 3) if data[0] & 0x80 else ""
+    return "sense %02X/%02X/%02X" % (data[2] & 0x0F, data[12], data[13]) + information
+
+
 def reply(event, block):
     """What data means, after the request or the command block that it answers."""
     data, command_code = event.data, block[0] if block else None
     if event.kind == 2 and event.body[:2] == b"\x80\x06" and event.body[3] == 3 and event.body[2] > 0:
         return '"%s"' % data[2:].decode("utf-16-le", "replace")
-    if event.kind == 4 and command_code == 0x03 and len(data) >= 14:
-        return "sense %02X/%02X/%02X" % (data[2] & 0x0F, data[12], data[13])
+    if event.kind == 4 and command_code == 0x03:
+        return sense_reply(data)
     if event.kind == 4 and block and page_code(block) is not None:
         return page_reply(page_code(block), data)
     if event.kind == 4 and command_code == 0x12 and len(data) >= 36:
         return '"%s" "%s" "%s"' % tuple(data[a:b].decode("ascii", "replace") for a, b in ((8, 16), (16, 32), (32, 36)))
     if event.kind == 4 and command_code == 0x25 and len(data) == 8:
         return "last block %d, of %d bytes" % struct.unpack(">II", data)
-    return "%d byte%s" % (len(data), "" if len(data) == 1 else "s") + (": " + data.hex(" ").upper() if len(data) <= 8 else "")
+    return counted(data) + (": " + data.hex(" ").upper() if len(data) <= 8 else "")
 
 
 def lines(entries):

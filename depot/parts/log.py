@@ -25,6 +25,11 @@ def read(path):
             yield Event(float(time), KINDS[name], octets(body), word, octets(data) if word == "data" else b"")
 
 
+def blocks(note):
+    """The number of blocks of a `plugged` note."""
+    return int(dict(word.split("=") for word in note.words[1:])["blocks"])
+
+
 def identity(note):
     """The numbers of a `plugged` note: number, vendor, product, release."""
     fields = dict(word.split("=") for word in note.words[1:])

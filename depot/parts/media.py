@@ -61,12 +61,12 @@ def media(seed):
     return {
         # The bench's 64 zero blocks. First and last block are always among the written ones.
         "bench": Medium(chance, Blocks(64), [(0, 1), *((block, 1) for block in some(64, 3)), (63, 1)]),
-        # The probe sends more of the data than it may get stored: block 5 only.
-        "transport": Medium(chance, filled(64), [(5, 1)], spare=1),
+        # The 128 blocks of the bench sheet and of document 02, A8. The probe sends more of the data than it may get stored: block 5 only.
+        "transport": Medium(chance, filled(128), [(5, 1)], spare=1),
         "one": Medium(chance, filled(1), [(0, 1)]),
         "seven": Medium(chance, filled(7), [(0, 3), (6, 1)]),
         "large": Medium(chance, filled(4096), [(0, 1), *((block, 1) for block in some(4000, 6)), (4032, 64)]),
-        # The last one, so that a seed gives the others the blocks that it always gave them.
+        # The last one, so that the others' blocks do not depend on how many random ones it takes.
         "largest": largest(chance),
     }
 

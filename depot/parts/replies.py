@@ -30,8 +30,10 @@ def product_pages(number):
     }
 
 
-def fixed_sense(key, code, qualifier):
-    return bytes([0x70, 0, key, 0, 0, 0, 0, 0x0A, 0, 0, 0, 0, code, qualifier, 0, 0, 0, 0])
+def fixed_sense(key, code, qualifier, block=None):
+    """Request Sense's 18 bytes. `block` is the first outside the unit, of a range failure: INFORMATION, with VALID set (document 02, A8)."""
+    valid, information = (0x00, 0) if block is None else (0x80, block)
+    return struct.pack(">BxBIB4xBB4x", valid | 0x70, key, information, 0x0A, code, qualifier)
 
 
 def capacity(blocks):

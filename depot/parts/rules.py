@@ -1,4 +1,4 @@
-"""Document 01, with document 02's landed requests (A1, A2, A5, A12), once more, in Python and from the papers alone: what a collector
+"""Document 01, with document 02's landed requests (A1, A2, A5, A8, A12), once more, in Python and from the papers alone: what a collector
 answers to each event, and what its medium then is.
 
 A run's log is held to it event by event, so that what the guest does not notice (a residue, a halt, an answer to a request
@@ -10,7 +10,7 @@ from .blocks import BLOCK
 from .replies import CONFIGURATION, INQUIRY, LANGUAGES, MODE_SENSE, capacity, device_descriptor, fixed_sense, product_pages, serial, utf16
 
 PACKET = 64
-NO_SENSE, INVALID_CODE, OUT_OF_RANGE, INVALID_FIELD, PHASE_SENSE = (0, 0, 0), (5, 0x20, 0), (5, 0x21, 0), (5, 0x24, 0), (0x0B, 0x4B, 0)
+NO_SENSE, INVALID_CODE, INVALID_FIELD, PHASE_SENSE = (0, 0, 0), (5, 0x20, 0), (5, 0x24, 0), (0x0B, 0x4B, 0)
 PASSED, FAILED, PHASE_ERROR = 0, 1, 2
 BLOCK_LENGTHS = {0x00: 6, 0x03: 6, 0x12: 6, 0x1A: 6, 0x1E: 6, 0x25: 10, 0x28: 10, 0x2A: 10, 0x2F: 10}
 REFUSED_CONTROL_BITS = 0x07  # document 02, A12: bits 0 (LINK), 1 and 2 (NACA)
@@ -30,6 +30,11 @@ def allocation_length(block):
 def page_code(block):
     """The product page that a command asks for: byte 2 of an Inquiry with byte 1 bit 0, EVPD, set (document 02, A2); None of others."""
     return block[2] if block[0] == 0x12 and block[1] & 1 else None
+
+
+def out_of_range(address, blocks):
+    """A range failure's sense, with the first block outside the unit (document 02, A8). It is a part of the sense, and goes with it."""
+    return 5, 0x21, 0, max(address, blocks)
 
 
 class Collector:
@@ -221,7 +226,7 @@ class Collector:
                 if block[1] & (0xE2 if code == 0x2F else 0xE0):
                     return INVALID_FIELD, *none
                 if address + count > self.medium.count:
-                    return OUT_OF_RANGE, *none
+                    return out_of_range(address, self.medium.count), *none
                 if code == 0x2F or not count:
                     return NO_SENSE, *none
                 return NO_SENSE, *(sent(self.medium.get(address, count)) if code == 0x28 else ("out", count * BLOCK, address))

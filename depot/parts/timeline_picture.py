@@ -14,7 +14,7 @@ def plugs(entries):
     out = []
     for entry in entries:
         if isinstance(entry, log.Note) and entry.words[0] == "plugged":
-            out.append([entry.time, entry.time, int(entry.words[-1].split("=")[1])])
+            out.append([entry.time, entry.time, log.blocks(entry)])
         elif isinstance(entry, log.Note) and entry.words[0] == "unplugged":
             out[-1][1] = entry.time
     return out

@@ -193,7 +193,7 @@ impl Device {
     pub(crate) fn fits(&self) -> bool {
         let idle = self.stage == Stage::Ready
             && !(self.halt_in || self.halt_out || self.locked)
-            && self.sense == Sense::NONE;
+            && self.sense.is_zero();
         (1..=MAX_BLOCKS).contains(&self.blocks)
             && self.identity.number <= MAX_NUMBER
             && self.address <= 0x7F

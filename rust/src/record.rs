@@ -20,9 +20,11 @@ pub struct Record {
     pub place: u32,
     pub left: u32,
     pub value: u32,
+    pub extra: u32,
     pub tag: u32,
     pub announced: u32,
     pub blocks: u32,
+    pub sense_information: u32,
     pub stage: u8,
     pub flags: u8,
     pub address: u8,
@@ -34,15 +36,17 @@ pub struct Record {
     pub reserved2: [u8; 4],
 }
 
-pub const SIZE: usize = 568;
+pub const SIZE: usize = 576;
 
 const _: () = {
     assert!(size_of::<Record>() == SIZE && align_of::<Record>() == 8);
     assert!(offset_of!(Record, vendor) == 8 && offset_of!(Record, reserved0) == 14);
-    assert!(offset_of!(Record, residue) == 16 && offset_of!(Record, blocks) == 40);
-    assert!(offset_of!(Record, stage) == 44 && offset_of!(Record, flags) == 45);
-    assert!(offset_of!(Record, sense_key) == 47 && offset_of!(Record, reserved1) == 50);
-    assert!(offset_of!(Record, part) == 52 && offset_of!(Record, reserved2) == 564);
+    assert!(offset_of!(Record, residue) == 16 && offset_of!(Record, value) == 28);
+    assert!(offset_of!(Record, extra) == 32 && offset_of!(Record, tag) == 36);
+    assert!(offset_of!(Record, blocks) == 44 && offset_of!(Record, sense_information) == 48);
+    assert!(offset_of!(Record, stage) == 52 && offset_of!(Record, flags) == 53);
+    assert!(offset_of!(Record, sense_key) == 55 && offset_of!(Record, reserved1) == 58);
+    assert!(offset_of!(Record, part) == 60 && offset_of!(Record, reserved2) == 572);
 };
 
 /// The bits of the record's flags.
@@ -89,9 +93,11 @@ impl Record {
         place: 0,
         left: 0,
         value: 0,
+        extra: 0,
         tag: 0,
         announced: 0,
         blocks: 0,
+        sense_information: 0,
         stage: stage::READY,
         flags: 0,
         address: 0,
@@ -136,6 +142,12 @@ impl Record {
         matches!(self.stage, stage::PASSED..=stage::PHASE_ERROR)
     }
 
+    /// The unit's sense.
+    pub fn sense(&self) -> Sense {
+        let information = self.sense_information;
+        Sense { information, ..Sense::new(self.sense_key, self.sense_asc, self.sense_ascq) }
+    }
+
     /// `None` for a stage over 10, and for a product page that the device does not have.
     fn stage(&self) -> Option<Stage> {
         let data_in = |source| Stage::DataIn { source, place: self.place, left: self.left };
@@ -145,7 +157,8 @@ impl Record {
             stage::DATA_IN => data_in(Source::Medium),
             stage::REQUEST_SENSE => {
                 let [key, asc, ascq, _] = self.value.to_le_bytes();
-                data_in(Source::Reply(Reply::Sense(Sense { key, asc, ascq })))
+                let sense = Sense { information: self.extra, ..Sense::new(key, asc, ascq) };
+                data_in(Source::Reply(Reply::Sense(sense)))
             }
             stage::INQUIRY => data_in(Source::Reply(Reply::Inquiry)),
             stage::MODE_SENSE => data_in(Source::Reply(Reply::ModeSense)),
@@ -181,6 +194,7 @@ impl Record {
             Source::Medium => stage::DATA_IN,
             Source::Reply(Reply::Sense(sense)) => {
                 self.value = u32::from_le_bytes([sense.key, sense.asc, sense.ascq, 0]);
+                self.extra = sense.information;
                 stage::REQUEST_SENSE
             }
             Source::Reply(Reply::Inquiry) => stage::INQUIRY,
@@ -198,9 +212,9 @@ impl Record {
 }
 
 impl Device {
-    /// `None` where the record does not decode: flags over 15, a stage over 10, a place, left or value that its stage
-    /// does not use and that is not 0, a reply's sense of more than three bytes, or a product page that is none of the
-    /// device's. Whether it fits together is for the events to ask.
+    /// `None` where the record does not decode: flags over 15, a stage over 10, a place, left, value or extra that its
+    /// stage does not use and that is not 0, a reply's sense of more than three bytes, or a product page that is none of
+    /// the device's. Whether it fits together is for the events to ask.
     pub fn from_record(record: &Record) -> Option<Device> {
         let device = Device {
             identity: Identity {
@@ -215,7 +229,7 @@ impl Device {
             halt_in: record.halt_in(),
             halt_out: record.halt_out(),
             locked: record.locked(),
-            sense: Sense::new(record.sense_key, record.sense_asc, record.sense_ascq),
+            sense: record.sense(),
             pending: Pending { tag: record.tag, announced: record.announced, residue: record.residue },
             stage: record.stage()?,
             part: record.part,
@@ -234,6 +248,7 @@ impl Device {
             tag: self.pending.tag,
             announced: self.pending.announced,
             blocks: self.blocks,
+            sense_information: self.sense.information,
             flags: self.flags(),
             address: self.address,
             sense_key: self.sense.key,

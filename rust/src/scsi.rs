@@ -1,25 +1,41 @@
-//! SCSI: the commands of the one logical unit, their sense and replies (§ Commands; document 02, A1, A2 and A12).
+//! SCSI: the commands of the one logical unit, their sense and replies (§ Commands; document 02, A1, A2, A8 and A12).
 
 use crate::device::{Identity, BLOCK};
 use crate::pages::Page;
 
-/// Sense key, additional sense code and its qualifier.
+/// Sense key, additional sense code and its qualifier, and INFORMATION.
 #[derive(Clone, Copy, Debug, PartialEq, Eq)]
 pub struct Sense {
     pub key: u8,
     pub asc: u8,
     pub ascq: u8,
+    /// Of a range failure the first block outside the unit, of other senses 0 (document 02, A8).
+    pub information: u32,
 }
 
 impl Sense {
     pub const NONE: Sense = Sense::new(0x00, 0x00, 0x00);
     pub const INVALID_OPERATION_CODE: Sense = Sense::new(0x05, 0x20, 0x00);
-    pub const OUT_OF_RANGE: Sense = Sense::new(0x05, 0x21, 0x00);
     pub const INVALID_FIELD: Sense = Sense::new(0x05, 0x24, 0x00);
     pub const DATA_PHASE_ERROR: Sense = Sense::new(0x0B, 0x4B, 0x00);
 
     pub const fn new(key: u8, asc: u8, ascq: u8) -> Sense {
-        Sense { key, asc, ascq }
+        Sense { key, asc, ascq, information: 0 }
+    }
+
+    /// A range failure: `block` is the first one outside the unit.
+    pub const fn out_of_range(block: u32) -> Sense {
+        Sense { information: block, ..Sense::new(0x05, 0x21, 0x00) }
+    }
+
+    /// Whatever its block: a record that was never reached may tell of block 0.
+    pub fn is_out_of_range(&self) -> bool {
+        *self == Sense::out_of_range(self.information)
+    }
+
+    /// § Numbers that come back, "sense zero": INFORMATION too.
+    pub fn is_zero(&self) -> bool {
+        *self == Sense::NONE
     }
 }
 
@@ -78,6 +94,8 @@ impl Reply {
     }
 }
 
+/// Sense data in the fixed format. A range failure's has VALID set in byte 0, and INFORMATION in bytes 3 to 6
+/// (document 02, A8).
 fn fixed_format(sense: Sense) -> [u8; 18] {
     let mut reply = [0; 18];
     reply[0] = 0x70;
@@ -85,6 +103,10 @@ fn fixed_format(sense: Sense) -> [u8; 18] {
     reply[7] = 0x0A;
     reply[12] = sense.asc;
     reply[13] = sense.ascq;
+    if sense.is_out_of_range() {
+        reply[0] |= 0x80;
+        reply[3..7].copy_from_slice(&sense.information.to_be_bytes());
+    }
     reply
 }
 
@@ -211,13 +233,14 @@ fn field(good: bool) -> Result<(), Sense> {
     good.then_some(()).ok_or(Sense::INVALID_FIELD)
 }
 
-/// Block address and count. Their sum is taken in 64 bits, for it does not fit in 32; count 0 is checked too.
+/// Block address and count. Their sum is taken in 64 bits, for it does not fit in 32; count 0 is checked too. A failure
+/// tells the first block outside the unit: the address, or the unit's end if that is larger (document 02, A8).
 fn range(block: &[u8; 16], blocks: u32) -> Result<(u32, u32), Sense> {
     let address = u32::from_be_bytes([block[2], block[3], block[4], block[5]]);
     let count = u16::from_be_bytes([block[7], block[8]]);
     if u64::from(address) + u64::from(count) <= u64::from(blocks) {
         Ok((address, count.into()))
     } else {
-        Err(Sense::OUT_OF_RANGE)
+        Err(Sense::out_of_range(address.max(blocks)))
     }
 }

@@ -184,8 +184,12 @@ abbrev pub last-bytes : RefT (List ℕ) → List ℕ → Fml
 last-bytes x l = fsep (finally u8 (x .name) l) (feq ℕ (length l) (length (x .now)))
 
 -- ---- the part block, lent from the record's cell for the lifetime ν of a call, under the name δ
+-- its place in the record
+abbrev part-place : ℕ
+part-place = 60
+
 abbrev o : RefT Record → ℕ
-o x = x .ptr .1 + 52
+o x = x .ptr .1 + part-place
 
 abbrev pub Part : RefT Record → GName → RefT (List ℕ)
 Part x δ = record { ptr = (x .ptr .0, o x); name = δ; now = x .now .part }
@@ -204,7 +208,7 @@ module _ {M : Type 1} (𝓤 : URA M) (H : Heap 𝓤) (A : Atoms 𝓤) (x : RefT 
 
   module _ (W : Rules 𝓤 H A) where
     apart : ent 𝓤 (sem 𝓤 H A (Cell x (x .now))) (sep 𝓤 (H .at fullShare BlockTy (x .ptr .0) (o x) (block-val (x .now .part))) (all 𝓤 Way))
-    apart = W .laws .at-field fullShare _ _ 2 BlockTy 52 refl (x .ptr .0) (x .ptr .1) (vcons (given-val (x .now .given)) (vcons (flat-val (x .now .flat)) (vcons (block-val (x .now .part)) vnil)))
+    apart = W .laws .at-field fullShare _ _ 2 BlockTy part-place refl (x .ptr .0) (x .ptr .1) (vcons (given-val (x .now .given)) (vcons (flat-val (x .now .flat)) (vcons (block-val (x .now .part)) vnil)))
 
     lies : (p : List ℕ) → Is Block p (block-val p ∷ []) → ent 𝓤 (H .at fullShare BlockTy (x .ptr .0) (o x) (block-val p)) (sem 𝓤 H A (mem Block .lies p (x .ptr .0) (o x)))
     unfolding partOf

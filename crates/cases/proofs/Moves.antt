@@ -74,10 +74,17 @@ pub all-moves : (p : Pipe) (a n : ℕ) → 0 < n → n ≤ a → caseOf (over p 
 unfolding caseOf
 all-moves p a n h l = rw (some p a (omega arith)) (rw (some p n h) (all-of p a n l))
 
--- nothing to send: no data moves, and the status is the command's own
-pub none-moves : (t : Transfer) → (caseOf t (In 0) .moves ≡ None) × (caseOf t (In 0) .ending ≡ Command)
-unfolding caseOf counted meeting if_then_else_
-none-moves t = alone (counted t)
+-- no bytes count as none
+nothing : (t : Transfer) → amount t ≡ 0 → counted t ≡ None
+unfolding counted
+nothing None e = refl
+nothing (In n) e = if-true _ _ _ (eq-eqb n 0 e)
+nothing (Out n) e = if-true _ _ _ (eq-eqb n 0 e)
+
+-- no data moves, and the status is the command's own
+pub none-moves : (t has : Transfer) → amount has ≡ 0 → (caseOf t has .moves ≡ None) × (caseOf t has .ending ≡ Command)
+unfolding caseOf meeting
+none-moves t has e = rw (nothing has e) (alone (counted t))
   where
     alone : (t : Transfer) → (meeting t None .moves ≡ None) × (meeting t None .ending ≡ Command)
     alone None = (refl, refl)

@@ -29,7 +29,7 @@ use Rattle.bulk.proofs.Admission.{open-in, open-out}
 use Rattle.bulk.proofs.Running.{asked}
 use Rattle.crecord.specs.declared.record.Given.{Given}
 use Rattle.crecord.specs.declared.record.Flat as flats
-use Rattle.crecord.specs.Flat.{noNumbers, formOf, flag, decodes, stateFrom, identityFrom, numbersOf, worth, flagsOf, flatWith, flatOf, answer, rec}
+use Rattle.crecord.specs.Flat.{noNumbers, noValue, formOf, flag, decodes, stateFrom, identityFrom, numbersOf, worth, flagsOf, flatWith, flatOf, answer, rec}
 use Rattle.cevents.specs.Events.{left, leaves, onRecord}
 use Rattle.cevents.specs.Ways.{Free, ReadsOn, Passes, Gathers, movedOn, ended}
 
@@ -37,7 +37,7 @@ module _ (g : Given) (f : flats.Flat) (m : List ℕ) where
   -- a free device in a stage
   abbrev at : Stage → ℕ → State
   at s residue =
-      state (f .address) true (unit (f .blocks) (record { key = f .key; asc = f .asc; ascq = f .ascq }))
+      state (f .address) true (unit (f .blocks) (record { key = f .key; asc = f .asc; ascq = f .ascq; information = f .information }))
       (link false false false (task s (f .tag) (f .announced) residue))
 
   abbrev dev : Stage → ℕ → List ℕ → Device
@@ -52,8 +52,8 @@ module _ (g : Given) (f : flats.Flat) (m : List ℕ) where
 
   module _ (b : List ℕ) (w : ReadsOn g f (length m) (length b)) where
     reads-decodes : decodes f ≡ true
-    unfolding decodes formOf look if_then_else_ _and_
-    reads-decodes = simp (w .stage, w .value, w .free .flags)
+    unfolding decodes formOf look if_then_else_ _and_ noValue
+    reads-decodes = simp (w .stage, w .value, w .free .extra, w .free .flags)
 
     reads-state : stateFrom f ≡ at (DataIn (f .place) (f .left)) (f .residue)
     unfolding stateFrom formOf look if_then_else_ flag bits
@@ -90,8 +90,8 @@ module _ (g : Given) (f : flats.Flat) (m : List ℕ) where
     csw = record { tag = f .tag; residue = f .residue; status = Passed }
 
     passes-decodes : decodes f ≡ true
-    unfolding decodes formOf look if_then_else_ _and_ noNumbers
-    passes-decodes = simp (w .stage, w .place, w .none, w .value, w .free .flags)
+    unfolding decodes formOf look if_then_else_ _and_ noNumbers noValue
+    passes-decodes = simp (w .stage, w .place, w .none, w .value, w .free .extra, w .free .flags)
 
     passes-state : stateFrom f ≡ at (StatusDue Passed) (f .residue)
     unfolding stateFrom formOf look if_then_else_ flag bits
@@ -121,7 +121,7 @@ module _ (g : Given) (f : flats.Flat) (m : List ℕ) where
   module _ (q p : List ℕ) (w : Gathers g f (length m) (length q)) where
     gathers-decodes : decodes f ≡ true
     unfolding decodes formOf look if_then_else_ _and_
-    gathers-decodes = simp (w .stage, w .free .flags)
+    gathers-decodes = simp (w .stage, w .free .extra, w .free .flags)
 
     gathers-state : stateFrom f ≡ at (DataOut (f .place) (f .left) (f .value)) (f .residue)
     unfolding stateFrom formOf look if_then_else_ flag bits

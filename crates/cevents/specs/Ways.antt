@@ -7,9 +7,10 @@ use Rattle.machine.specs.Fits.{sizeFits, numberFits, outFits, inFits}
 use Rattle.crecord.specs.declared.record.Given.{Given}
 use Rattle.crecord.specs.declared.record.Flat as flats
 
--- A configured device, no pipe halted, over its medium.
+-- A configured device, no pipe halted, over its medium, without the number that only a sense on its way has.
 pub record Free (g : Given) (f : flats.Flat) (medium : ℕ) : Type 0 where
   pub flags : f .flags ≡ 1
+  pub extra : f .extra ≡ 0
   pub address : f .address ≤ 0x7F
   pub size : sizeFits (f .blocks) ≡ true
   pub number : numberFits (g .number) ≡ true
@@ -47,9 +48,11 @@ movedOn f stage residue place left value =
       place = place;
       left = left;
       value = value;
+      extra = 0;
       tag = f .tag;
       announced = f .announced;
       blocks = f .blocks;
+      information = f .information;
       stage = stage;
       flags = 1;
       address = f .address;
@@ -66,9 +69,11 @@ ended f =
       place = 0;
       left = 0;
       value = 0;
+      extra = 0;
       tag = 0;
       announced = 0;
       blocks = f .blocks;
+      information = f .information;
       stage = 0;
       flags = 1;
       address = f .address;

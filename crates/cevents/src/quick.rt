@@ -10,15 +10,19 @@ use state::fits::number_fits;
 use state::fits::out_fits;
 use state::fits::size_fits;
 
-// Configured, no pipe halted, over its medium.
-fn is_free(given: Given, flat: Flat, medium: usize) -> bool
+// Configured, no pipe halted, over its medium, and without the number that only a sense on its way has.
+pub(crate) fn is_free(given: Given, flat: Flat, medium: usize) -> bool
     ensures { λ r. ⌜ (r ≡ true → Free given flat medium) ⌝ }
 {
     let flags = flat.flags;
     let address = flat.address;
     let blocks = flat.blocks;
+    let extra = flat.extra;
     let number = given.number;
     if flags != 1 {
+        return false;
+    }
+    if extra != 0 {
         return false;
     }
     if 0x7F < address {

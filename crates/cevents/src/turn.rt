@@ -8,6 +8,7 @@ ghost use Rattle.crecord.specs.Flat.{identityFrom, answer, rec};
 ghost use Rattle.cevents.specs.Ways.{movedOn, ended};
 ghost use Rattle.cevents.specs.Events.{left, onRecord, leftMade, onMaking};
 use crate::quick::gathers;
+use crate::quick::is_free;
 use crate::quick::passes;
 use crate::quick::reads_on;
 use bot::csw::Csw;
@@ -121,9 +122,11 @@ fn moved_on(flat: Flat, stage: u8, residue: u32, place: u32, left: u32, value: u
         place,
         left,
         value,
+        extra: 0,
         tag: flat.tag,
         announced: flat.announced,
         blocks: flat.blocks,
+        information: flat.information,
         stage,
         flags: 1,
         address: flat.address,
@@ -142,9 +145,11 @@ fn ended(flat: Flat) -> Flat
         place: 0,
         left: 0,
         value: 0,
+        extra: 0,
         tag: 0,
         announced: 0,
         blocks: flat.blocks,
+        information: flat.information,
         stage: 0,
         flags: 1,
         address: flat.address,
@@ -188,8 +193,15 @@ fn any_in(given: Given, flat: Flat, medium: &[u8], buffer: &mut [u8]) -> Turn
 fn later_in(given: Given, flat: Flat, medium: &[u8], buffer: &mut [u8]) -> Turn
     ensures { λ r. ⌜ ((p : List ℕ) → left (r .told) (rec given (r .flat) p) (now (medium .entry)) (now (buffer .exit)) ≡ onRecord (rec given flat p) (now (medium .entry)) (bulkIn (now (buffer .entry)))) ⌝ }
 {
+    // Called from two places, and with a result of its own in each, the long way stays a function apart: its numbers take no
+    // registers of the quick ways.
+    if !is_free(given, flat, medium.len()) {
+        let turn = any_in(given, flat, medium, buffer);
+        return turn;
+    }
     if !passes(given, flat, medium.len(), buffer.len()) {
-        return any_in(given, flat, medium, buffer);
+        let turn = any_in(given, flat, medium, buffer);
+        return turn;
     }
     let csw = Csw {
         tag: flat.tag,

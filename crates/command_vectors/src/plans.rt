@@ -19,6 +19,10 @@ fn sense(s: Sense) {
     hex(s.key);
     hex(s.asc);
     hex(s.ascq);
+    if s.is_out_of_range() {
+        text(b" block");
+        word(s.information);
+    }
 }
 
 fn reply(kind: ReplyKind) {
@@ -83,7 +87,8 @@ fn block(front: u64, back: u16) {
     planned(&s);
 }
 
-// Read 127 count 1, 128 count 0, 128 count 1, FFFFFFFF count 1, 0 count 1 with flag bit 5; Write 126 count 2; Verify 0 count 128.
+// Read 127 count 1, 128 count 0, 128 count 1, FFFFFFFF count 1, 0 count 1 with flag bit 5; Write 126 count 2; Verify 0 count 128; Read
+// 120 count 10, Write 127 count 2, Verify 129 count 0.
 fn ranges() {
     block(0x2800_0000_007F_0000, 0x0100);
     block(0x2800_0000_0080_0000, 0x0000);
@@ -92,6 +97,9 @@ fn ranges() {
     block(0x2820_0000_0000_0000, 0x0100);
     block(0x2A00_0000_007E_0000, 0x0200);
     block(0x2F00_0000_0000_0000, 0x8000);
+    block(0x2800_0000_0078_0000, 0x0A00);
+    block(0x2A00_0000_007F_0000, 0x0200);
+    block(0x2F00_0000_0081_0000, 0x0000);
 }
 
 // Test Unit Ready; Prevent/Allow, allow and prevent; Inquiry of 5 and of 36 bytes, Request Sense of 18, Mode Sense of 192; Read

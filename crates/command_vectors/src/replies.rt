@@ -1,4 +1,4 @@
-// The replies of document 01's commands, and the pages of document 02, A2.
+// The replies of document 01's commands, the pages of document 02, A2, and the block of A8.
 use crate::print::line;
 use scsi::page::Page;
 use scsi::reply::Reply;
@@ -20,8 +20,12 @@ pub(crate) fn run() {
     page(b"page 80 of 999999999999:", Page::Serial, 999_999_999_999);
     page(b"page 83 of 42:", Page::Identification, 42);
     line(
-        b"sense 05/21/00:",
-        reply_bytes(Reply::Sense(Sense::OUT_OF_RANGE), 42),
+        b"sense 05/21/00, block 128:",
+        reply_bytes(Reply::Sense(Sense::out_of_range(128)), 42),
+    );
+    line(
+        b"sense 05/24/00:",
+        reply_bytes(Reply::Sense(Sense::INVALID_FIELD), 42),
     );
     line(b"mode sense:", reply_bytes(Reply::ModeSense, 42));
     capacity(b"capacity of 128:", 128);

@@ -22,8 +22,8 @@ use Rattle.machine.specs.declared.record.Stage.the-variants.{Ready, DataOut, Da
 use Rattle.machine.specs.declared.record.State.{State}
 use Rattle.machine.specs.Record.{task, link, state}
 use Rattle.crecord.specs.declared.record.Flat as flats
-use Rattle.crecord.specs.Flat.{senseNumber, senseFrom, isFound, pageStage, Form, noNumbers, forms, noForm, formOf, flag, decodes, stateFrom}
-use Rattle.crecord.specs.Flat.{numbers, numbersOf, worth, flagsOf, flatWith, flatOf}
+use Rattle.crecord.specs.Flat.{numbers, numbersIn, senseNumber, senseFrom, isFound, pageStage, Form, none, two, three, noNumbers, noValue, isPage, forms, noForm, formOf, flag, decodes, stateFrom}
+use Rattle.crecord.specs.Flat.{numbersOf, worth, flagsOf, flatWith, flatOf}
 use Rattle.crecord.specs.declared.encode.Numbers.{Numbers}
 use Rattle.crecord.specs.Claims.{IsState, RoundTrip}
 
@@ -87,9 +87,9 @@ sense-small : (s : Sense) → IsSense s → senseNumber s < 256 ^ 3
 unfolding senseNumber value
 sense-small s ok = omega arith
 
-sense-back : (s : Sense) → IsSense s → senseFrom (senseNumber s) ≡ s
+sense-back : (s : Sense) → IsSense s → senseFrom (senseNumber s) (s .information) ≡ s
 unfolding senseFrom senseNumber value
-sense-back s ok = λ i. record { key = key i; asc = asc i; ascq = ascq i }
+sense-back s ok = λ i. record { key = key i; asc = asc i; ascq = ascq i; information = s .information }
   where
     key : senseNumber s % 256 ≡ s .key
     key = omega arith
@@ -100,19 +100,21 @@ sense-back s ok = λ i. record { key = key i; asc = asc i; ascq = ascq i }
     ascq : senseNumber s / 256 ^ 2 % 256 ≡ s .ascq
     ascq = omega arith
 
-sense-again : (v : ℕ) → v < 256 ^ 3 → senseNumber (senseFrom v) ≡ v
+sense-again : (v x : ℕ) → v < 256 ^ 3 → senseNumber (senseFrom v x) ≡ v
 unfolding senseFrom senseNumber value
-sense-again v h = omega arith
+sense-again v x h = omega arith
+
+information-again : (v x : ℕ) → senseFrom v x .information ≡ x
+unfolding senseFrom
+information-again v x = refl
 
 -- ---- the stage
 
 abbrev ReadAs : Stage → Numbers → Type 0
-ReadAs g n =
-    (formOf (n .stage) .has (n .place) (n .left) (n .value) ≡ true)
-    × (formOf (n .stage) .stage (n .place) (n .left) (n .value) ≡ g)
+ReadAs g n = (formOf (n .stage) .has n ≡ true) × (formOf (n .stage) .stage n ≡ g)
 
 stage-back : (g : Stage) → ((n : Sense) (place left : ℕ) → g ≡ ReplyIn (reply.Sense n) place left → IsSense n) → ReadAs g (numbersOf g)
-unfolding numbersOf formOf look if_then_else_ noNumbers _and_
+unfolding numbersOf formOf look if_then_else_ noNumbers noValue isPage _and_
 stage-back Ready ok = (refl, refl)
 stage-back (DataOut block left held) ok = (refl, refl)
 stage-back (DataIn place left) ok = (refl, refl)
@@ -122,45 +124,49 @@ stage-back (ReplyIn (reply.Sense s) place left) ok =
 stage-back (ReplyIn reply.Inquiry place left) ok = (refl, refl)
 stage-back (ReplyIn reply.ModeSense place left) ok = (refl, refl)
 stage-back (ReplyIn (reply.Capacity n) place left) ok = (refl, refl)
-stage-back (ReplyIn (reply.Page p) place left) ok = (ap isFound (code-found p), ap (λ (x : Listed). pageStage x place left) (code-found p))
+stage-back (ReplyIn (reply.Page p) place left) ok = (and-true _ _ (ap isFound (code-found p)) refl, ap (λ (x : Listed). pageStage x place left) (code-found p))
 stage-back (StatusDue Passed) ok = (refl, refl)
 stage-back (StatusDue Failed) ok = (refl, refl)
 stage-back (StatusDue PhaseError) ok = (refl, refl)
 
-stage-again : (n p l v : ℕ) → formOf n .has p l v ≡ true → numbersOf (formOf n .stage p l v) ≡ numbers n p l v
-unfolding formOf numbersOf noNumbers
-stage-again n p l v =
-    look-keyed P forms n noForm
-    (no-transfer, (whole, (no-value, (sense, (no-value, (no-value, (whole, (no-transfer, (no-transfer, (no-transfer, (page, tt)))))))))))
+stage-again : (n : Numbers) → formOf (n .stage) .has n ≡ true → numbersOf (formOf (n .stage) .stage n) ≡ n
+unfolding formOf numbersOf noNumbers noValue isPage
+stage-again n =
+    look-keyed P forms (n .stage) noForm
+    (no-transfer, (no-extra, (no-value, (sense, (no-value, (no-value, (no-extra, (no-transfer, (no-transfer, (no-transfer, (page, tt)))))))))))
     (λ h. let z : _≡_ {A = ℕ} 0 1 = cc in absurd (omega arith))
   where
     P : Form → Type 0
-    P f = f .has p l v ≡ true → numbersOf (f .stage p l v) ≡ numbers n p l v
+    P f = f .has n ≡ true → numbersOf (f .stage n) ≡ n
 
-    at : {k w : ℕ} → n ≡ k → w ≡ v → numbers k p l w ≡ numbers n p l v
-    at e c = λ i. numbers (sym e i) p l (c i)
+    at : {k v x : ℕ} → n .stage ≡ k → v ≡ n .value → x ≡ n .extra → numbers k (n .place) (n .left) v x ≡ n
+    at e c d = λ i. numbers (sym e i) (n .place) (n .left) (c i) (d i)
 
-    whole : {k : ℕ} → n ≡ k → true ≡ true → numbers k p l v ≡ numbers n p l v
-    whole e h = at e refl
+    zero : (x : ℕ) → eqb x 0 ≡ true → 0 ≡ x
+    zero x h = sym (eqb-true x 0 h)
 
-    no-value : {k : ℕ} → n ≡ k → eqb v 0 ≡ true → numbers k p l 0 ≡ numbers n p l v
-    no-value e h = at e (sym (eqb-true v 0 h))
+    no-extra : {k : ℕ} → n .stage ≡ k → three n ≡ true → numbers k (n .place) (n .left) (n .value) 0 ≡ n
+    no-extra e h = at e refl (zero _ h)
 
-    sense : n ≡ 3 → ltb v (256 ^ 3) ≡ true → numbers 3 p l (senseNumber (senseFrom v)) ≡ numbers n p l v
-    sense e h = at e (sense-again v (ltb-true _ _ h))
+    no-value : {k : ℕ} → n .stage ≡ k → two n ≡ true → numbers k (n .place) (n .left) 0 0 ≡ n
+    no-value e h = let b = both _ _ h in at e (zero _ (b .0)) (zero _ (b .1))
 
-    page : n ≡ 10 → isFound (pageOf v) ≡ true → numbersOf (pageStage (pageOf v) p l) ≡ numbers n p l v
-    page e = pages (pageOf v) (found-code v)
+    sense : n .stage ≡ 3 → ltb (n .value) (256 ^ 3) ≡ true → numbers 3 (n .place) (n .left) (senseNumber (senseFrom (n .value) (n .extra))) (senseFrom (n .value) (n .extra) .information) ≡ n
+    sense e h = at e (sense-again (n .value) (n .extra) (ltb-true _ _ h)) (information-again (n .value) (n .extra))
+
+    page : n .stage ≡ 10 → isPage (n .value) (n .extra) ≡ true → numbersOf (pageStage (pageOf (n .value)) (n .place) (n .left)) ≡ n
+    page e h = let b = both _ _ h in pages (pageOf (n .value)) (found-code (n .value)) (b .0) (zero _ (b .1))
       where
-        pages : (x : Listed) → CodeIs v x → isFound x ≡ true → numbersOf (pageStage x p l) ≡ numbers n p l v
-        pages Missing c h = let z : _≡_ {A = ℕ} 0 1 = cc in absurd (omega arith)
-        pages (Found q) c h = at e c
+        pages : (x : Listed) → CodeIs (n .value) x → isFound x ≡ true → 0 ≡ n .extra → numbersOf (pageStage x (n .place) (n .left)) ≡ n
+        pages Missing c f z = let z : _≡_ {A = ℕ} 0 1 = cc in absurd (omega arith)
+        pages (Found q) c f z = at e c z
 
-    no-transfer : {k : ℕ} → n ≡ k → noNumbers p l v ≡ true → numbers k 0 0 0 ≡ numbers n p l v
+    no-transfer : {k : ℕ} → n .stage ≡ k → none n ≡ true → numbers k 0 0 0 0 ≡ n
     no-transfer e h =
         let a = both _ _ h in
         let b = both _ _ (a .1) in
-        λ i. numbers (sym e i) (sym (eqb-true p 0 (a .0)) i) (sym (eqb-true l 0 (b .0)) i) (sym (eqb-true v 0 (b .1)) i)
+        let c = both _ _ (b .1) in
+        λ i. numbers (sym e i) (zero (n .place) (a .0) i) (zero (n .left) (b .0) i) (zero (n .value) (c .0) i) (zero (n .extra) (c .1) i)
 
 -- ---- the whole state
 
@@ -181,15 +187,17 @@ unfolding decodes stateFrom flatOf flatWith flagsOf
 read-is-written f h =
     let d = both _ _ h in
     let b = flags-again (f .flags) (leb-true _ _ (d .0)) in
-    let n = stage-again (f .stage) (f .place) (f .left) (f .value) (d .1) in
+    let n = stage-again (numbersIn f) (d .1) in
     λ i. record {
       residue = f .residue;
       place = n i .place;
       left = n i .left;
       value = n i .value;
+      extra = n i .extra;
       tag = f .tag;
       announced = f .announced;
       blocks = f .blocks;
+      information = f .information;
       stage = n i .stage;
       flags = b i;
       address = f .address;

@@ -24,14 +24,20 @@ use Rattle.crecord.specs.declared.record.Record.{Record}
 use Rattle.crecord.specs.declared.record.Told as tolds
 use Rattle.crecord.specs.declared.encode.Numbers.{Numbers}
 
--- ---- the stage: a number, and what place, left and value mean under it
+-- ---- the stage: a number, and what place, left, value and extra mean under it
 
--- A sense as one number, its key in the lowest byte.
+abbrev pub numbers : ℕ → ℕ → ℕ → ℕ → ℕ → Numbers
+numbers n p l v x = record { stage = n; place = p; left = l; value = v; extra = x }
+
+abbrev pub numbersIn : flats.Flat → Numbers
+numbersIn f = numbers (f .stage) (f .place) (f .left) (f .value) (f .extra)
+
+-- A sense's bytes as one number, its key in the lowest; its information is another (document 02, A8).
 unfoldable pub senseNumber : Sense → ℕ
 senseNumber s = little (s .key ∷ s .asc ∷ s .ascq ∷ [])
 
-unfoldable pub senseFrom : ℕ → Sense
-senseFrom v = record { key = v % 256; asc = v / 256 % 256; ascq = v / 256 ^ 2 % 256 }
+unfoldable pub senseFrom : ℕ → ℕ → Sense
+senseFrom v x = record { key = v % 256; asc = v / 256 % 256; ascq = v / 256 ^ 2 % 256; information = x }
 
 -- A page is known by its code.
 abbrev pub isFound : Listed → Bool
@@ -42,35 +48,50 @@ abbrev pub pageStage : Listed → ℕ → ℕ → Stage
 pageStage Missing place left = Ready
 pageStage (Found p) place left = ReplyIn (reply.Page p) place left
 
--- Of a stage's number: which place, left and value stand for something, and for which stage.
+-- Of a stage's number: which numbers stand for something, and for which stage.
 pub record Form : Type 0 where
-  pub has : ℕ → ℕ → ℕ → Bool
-  pub stage : ℕ → ℕ → ℕ → Stage
+  pub has : Numbers → Bool
+  pub stage : Numbers → Stage
 
-abbrev pub form : (ℕ → ℕ → ℕ → Bool) → (ℕ → ℕ → ℕ → Stage) → Form
+abbrev pub form : (Numbers → Bool) → (Numbers → Stage) → Form
 form h s = record { has = h; stage = s }
 
--- Without a transfer there are no numbers; most transfers have no third.
-unfoldable pub noNumbers : ℕ → ℕ → ℕ → Bool
-noNumbers place left value = eqb place 0 and eqb left 0 and eqb value 0
+-- A number that a stage does not use is 0. Without a transfer there are none; most transfers have a place and what is left, some a value too.
+unfoldable pub noValue : ℕ → ℕ → Bool
+noValue value extra = eqb value 0 and eqb extra 0
+
+unfoldable pub noNumbers : ℕ → ℕ → ℕ → ℕ → Bool
+noNumbers place left value extra = eqb place 0 and eqb left 0 and noValue value extra
+
+unfoldable pub isPage : ℕ → ℕ → Bool
+isPage value extra = isFound (pageOf value) and eqb extra 0
+
+abbrev pub none : Numbers → Bool
+none n = noNumbers (n .place) (n .left) (n .value) (n .extra)
+
+abbrev pub two : Numbers → Bool
+two n = noValue (n .value) (n .extra)
+
+abbrev pub three : Numbers → Bool
+three n = eqb (n .extra) 0
 
 abbrev pub forms : List (Row Form)
 forms =
-    row 0 (form noNumbers (λ place left value. Ready))
-    ∷ row 1 (form (λ place left value. true) (λ place left value. DataOut place left value))
-    ∷ row 2 (form (λ place left value. eqb value 0) (λ place left value. DataIn place left))
-    ∷ row 3 (form (λ place left value. ltb value (256 ^ 3)) (λ place left value. ReplyIn (reply.Sense (senseFrom value)) place left))
-    ∷ row 4 (form (λ place left value. eqb value 0) (λ place left value. ReplyIn reply.Inquiry place left))
-    ∷ row 5 (form (λ place left value. eqb value 0) (λ place left value. ReplyIn reply.ModeSense place left))
-    ∷ row 6 (form (λ place left value. true) (λ place left value. ReplyIn (reply.Capacity value) place left))
-    ∷ row 7 (form noNumbers (λ place left value. StatusDue Passed))
-    ∷ row 8 (form noNumbers (λ place left value. StatusDue Failed))
-    ∷ row 9 (form noNumbers (λ place left value. StatusDue PhaseError))
-    ∷ row 10 (form (λ place left value. isFound (pageOf value)) (λ place left value. pageStage (pageOf value) place left))
+    row 0 (form none (λ n. Ready))
+    ∷ row 1 (form three (λ n. DataOut (n .place) (n .left) (n .value)))
+    ∷ row 2 (form two (λ n. DataIn (n .place) (n .left)))
+    ∷ row 3 (form (λ n. ltb (n .value) (256 ^ 3)) (λ n. ReplyIn (reply.Sense (senseFrom (n .value) (n .extra))) (n .place) (n .left)))
+    ∷ row 4 (form two (λ n. ReplyIn reply.Inquiry (n .place) (n .left)))
+    ∷ row 5 (form two (λ n. ReplyIn reply.ModeSense (n .place) (n .left)))
+    ∷ row 6 (form three (λ n. ReplyIn (reply.Capacity (n .value)) (n .place) (n .left)))
+    ∷ row 7 (form none (λ n. StatusDue Passed))
+    ∷ row 8 (form none (λ n. StatusDue Failed))
+    ∷ row 9 (form none (λ n. StatusDue PhaseError))
+    ∷ row 10 (form (λ n. isPage (n .value) (n .extra)) (λ n. pageStage (pageOf (n .value)) (n .place) (n .left)))
     ∷ []
 
 abbrev pub noForm : Form
-noForm = form (λ place left value. false) (λ place left value. Ready)
+noForm = form (λ n. false) (λ n. Ready)
 
 unfoldable pub formOf : ℕ → Form
 formOf n = look forms n noForm
@@ -82,35 +103,32 @@ unfoldable pub flag : ℕ → ℕ → Bool
 flag n flags = eqb (bits n n flags) 1
 
 unfoldable pub decodes : flats.Flat → Bool
-decodes f = leb (f .flags) 15 and formOf (f .stage) .has (f .place) (f .left) (f .value)
+decodes f = leb (f .flags) 15 and formOf (f .stage) .has (numbersIn f)
 
 unfoldable pub stateFrom : flats.Flat → State
 stateFrom f =
     state (f .address) (flag 0 (f .flags))
-    (unit (f .blocks) (record { key = f .key; asc = f .asc; ascq = f .ascq }))
+    (unit (f .blocks) (record { key = f .key; asc = f .asc; ascq = f .ascq; information = f .information }))
     (link (flag 1 (f .flags)) (flag 2 (f .flags)) (flag 3 (f .flags))
-    (task (formOf (f .stage) .stage (f .place) (f .left) (f .value)) (f .tag) (f .announced) (f .residue)))
+    (task (formOf (f .stage) .stage (numbersIn f)) (f .tag) (f .announced) (f .residue)))
 
 abbrev pub identityFrom : Given → Identity
 identityFrom g = record { number = g .number; vendor = g .vendor; product = g .product; release = g .release }
 
 -- ---- writing
 
-abbrev pub numbers : ℕ → ℕ → ℕ → ℕ → Numbers
-numbers n p l v = record { stage = n; place = p; left = l; value = v }
-
 unfoldable pub numbersOf : Stage → Numbers
-numbersOf Ready = numbers 0 0 0 0
-numbersOf (DataOut block left held) = numbers 1 block left held
-numbersOf (DataIn place left) = numbers 2 place left 0
-numbersOf (ReplyIn (reply.Sense s) place left) = numbers 3 place left (senseNumber s)
-numbersOf (ReplyIn reply.Inquiry place left) = numbers 4 place left 0
-numbersOf (ReplyIn reply.ModeSense place left) = numbers 5 place left 0
-numbersOf (ReplyIn (reply.Capacity n) place left) = numbers 6 place left n
-numbersOf (ReplyIn (reply.Page p) place left) = numbers 10 place left (pageCode p)
-numbersOf (StatusDue Passed) = numbers 7 0 0 0
-numbersOf (StatusDue Failed) = numbers 8 0 0 0
-numbersOf (StatusDue PhaseError) = numbers 9 0 0 0
+numbersOf Ready = numbers 0 0 0 0 0
+numbersOf (DataOut block left held) = numbers 1 block left held 0
+numbersOf (DataIn place left) = numbers 2 place left 0 0
+numbersOf (ReplyIn (reply.Sense s) place left) = numbers 3 place left (senseNumber s) (s .information)
+numbersOf (ReplyIn reply.Inquiry place left) = numbers 4 place left 0 0
+numbersOf (ReplyIn reply.ModeSense place left) = numbers 5 place left 0 0
+numbersOf (ReplyIn (reply.Capacity n) place left) = numbers 6 place left n 0
+numbersOf (ReplyIn (reply.Page p) place left) = numbers 10 place left (pageCode p) 0
+numbersOf (StatusDue Passed) = numbers 7 0 0 0 0
+numbersOf (StatusDue Failed) = numbers 8 0 0 0 0
+numbersOf (StatusDue PhaseError) = numbers 9 0 0 0 0
 
 unfoldable pub worth : Bool → ℕ → ℕ
 worth on n = if on then n else 0
@@ -125,9 +143,11 @@ flatWith s n =
       place = n .place;
       left = n .left;
       value = n .value;
+      extra = n .extra;
       tag = s .link .task .tag;
       announced = s .link .task .announced;
       blocks = s .unit .blocks;
+      information = s .unit .sense .information;
       stage = n .stage;
       flags = flagsOf s;
       address = s .address;

@@ -1,7 +1,7 @@
 // From the numbers that C holds to the device's state.
 ghost use mathlib.Core.Path.{_≡_};
 ghost use Rattle.scsi.specs.Page.{pageOf};
-ghost use Rattle.crecord.specs.Flat.{noNumbers, formOf, isFound, pageStage, decodes, senseFrom, stateFrom, identityFrom};
+ghost use Rattle.crecord.specs.Flat.{numbers, numbersIn, noValue, noNumbers, formOf, isPage, pageStage, decodes, senseFrom, stateFrom, identityFrom};
 use crate::record::Flat;
 use crate::record::Given;
 use bot::csw::Status;
@@ -16,9 +16,19 @@ use scsi::reply::Reply;
 use scsi::sense::Sense;
 use usb::descriptor::Identity;
 
+// Most transfers have a place and what is left, no more.
+fn no_value(value: u32, extra: u32) -> bool
+    ensures { λ r. ⌜ r ≡ noValue value extra ⌝ }
+{
+    if value != 0 {
+        return false;
+    }
+    extra == 0
+}
+
 // A stage without a transfer has no numbers.
-fn no_numbers(place: u32, left: u32, value: u32) -> bool
-    ensures { λ r. ⌜ r ≡ noNumbers place left value ⌝ }
+fn no_numbers(place: u32, left: u32, value: u32, extra: u32) -> bool
+    ensures { λ r. ⌜ r ≡ noNumbers place left value extra ⌝ }
 {
     if place != 0 {
         return false;
@@ -26,16 +36,16 @@ fn no_numbers(place: u32, left: u32, value: u32) -> bool
     if left != 0 {
         return false;
     }
-    value == 0
+    no_value(value, extra)
 }
 
 // A page is known by its code.
-fn is_page(code: u32) -> bool
-    ensures { λ r. ⌜ r ≡ isFound (pageOf code) ⌝ }
+fn is_page(code: u32, extra: u32) -> bool
+    ensures { λ r. ⌜ r ≡ isPage code extra ⌝ }
 {
     match page_of(code) {
         Listed::Missing => false,
-        Listed::Found(_) => true,
+        Listed::Found(_) => extra == 0,
     }
 }
 
@@ -52,25 +62,22 @@ fn page_stage(code: u32, place: u32, left: u32) -> Stage
     }
 }
 
-fn stage_decodes(flat: Flat) -> bool
-    ensures { λ r. ⌜ r ≡ formOf (flat .stage) .has (flat .place) (flat .left) (flat .value) ⌝ }
+// It takes the numbers one by one, so that they need not be in memory for it.
+fn stage_decodes(stage: u8, place: u32, left: u32, value: u32, extra: u32) -> bool
+    ensures { λ r. ⌜ r ≡ formOf stage .has (numbers stage place left value extra) ⌝ }
 {
-    let stage = flat.stage;
-    let place = flat.place;
-    let left = flat.left;
-    let value = flat.value;
     match stage {
-        0 => no_numbers(place, left, value),
-        1 => true,
-        2 => value == 0,
+        0 => no_numbers(place, left, value, extra),
+        1 => extra == 0,
+        2 => no_value(value, extra),
         3 => value < 0x1000000,
-        4 => value == 0,
-        5 => value == 0,
-        6 => true,
-        7 => no_numbers(place, left, value),
-        8 => no_numbers(place, left, value),
-        9 => no_numbers(place, left, value),
-        10 => is_page(value),
+        4 => no_value(value, extra),
+        5 => no_value(value, extra),
+        6 => extra == 0,
+        7 => no_numbers(place, left, value, extra),
+        8 => no_numbers(place, left, value, extra),
+        9 => no_numbers(place, left, value, extra),
+        10 => is_page(value, extra),
         _ => false,
     }
 }
@@ -82,27 +89,32 @@ pub fn decodes(flat: Flat) -> bool
     if 15 < flags {
         return false;
     }
-    stage_decodes(flat)
+    stage_decodes(flat.stage, flat.place, flat.left, flat.value, flat.extra)
 }
 
-// A reply's sense stands in one number, its key in the lowest byte.
-fn sense_from(value: u32) -> Sense
-    ensures { λ r. ⌜ r ≡ senseFrom value ⌝ }
+// A reply's sense stands in two numbers: its bytes, the key in the lowest, and its information.
+fn sense_from(value: u32, extra: u32) -> Sense
+    ensures { λ r. ⌜ r ≡ senseFrom value extra ⌝ }
 {
+    let key = (value % 256) as u8;
+    let asc = (value / 256 % 256) as u8;
+    let ascq = (value / 65536 % 256) as u8;
     Sense {
-        key: (value % 256) as u8,
-        asc: (value / 256 % 256) as u8,
-        ascq: (value / 65536 % 256) as u8,
+        key,
+        asc,
+        ascq,
+        information: extra,
     }
 }
 
 fn stage_from(flat: Flat) -> Stage
-    ensures { λ r. ⌜ r ≡ formOf (flat .stage) .stage (flat .place) (flat .left) (flat .value) ⌝ }
+    ensures { λ r. ⌜ r ≡ formOf (flat .stage) .stage (numbersIn flat) ⌝ }
 {
     let stage = flat.stage;
     let place = flat.place;
     let left = flat.left;
     let value = flat.value;
+    let extra = flat.extra;
     match stage {
         0 => Stage::Ready,
         1 => Stage::DataOut {
@@ -112,7 +124,7 @@ fn stage_from(flat: Flat) -> Stage
         },
         2 => Stage::DataIn { place, left },
         3 => Stage::ReplyIn {
-            reply: Reply::Sense(sense_from(value)),
+            reply: Reply::Sense(sense_from(value, extra)),
             place,
             left,
         },
@@ -159,6 +171,7 @@ pub fn state_from(flat: Flat) -> State
                 key: flat.key,
                 asc: flat.asc,
                 ascq: flat.ascq,
+                information: flat.information,
             },
         },
         link: Link {

@@ -40,22 +40,24 @@ fn flags_of(state: State) -> u8
         + worth(link.locked, 8)
 }
 
-// A stage's number, and the three that it gives a meaning.
+// A stage's number, and the four that it gives a meaning.
 pub struct Numbers {
     pub stage: u8,
     pub place: u32,
     pub left: u32,
     pub value: u32,
+    pub extra: u32,
 }
 
-fn numbered(stage: u8, place: u32, left: u32, value: u32) -> Numbers
-    ensures { λ r. ⌜ r ≡ numbers stage place left value ⌝ }
+fn numbered(stage: u8, place: u32, left: u32, value: u32, extra: u32) -> Numbers
+    ensures { λ r. ⌜ r ≡ numbers stage place left value extra ⌝ }
 {
     Numbers {
         stage,
         place,
         left,
         value,
+        extra,
     }
 }
 
@@ -63,20 +65,20 @@ fn numbers_of(stage: Stage) -> Numbers
     ensures { λ r. ⌜ r ≡ numbersOf stage ⌝ }
 {
     match stage {
-        Stage::Ready => numbered(0, 0, 0, 0),
-        Stage::DataOut { block, left, held } => numbered(1, block, left, held),
-        Stage::DataIn { place, left } => numbered(2, place, left, 0),
+        Stage::Ready => numbered(0, 0, 0, 0, 0),
+        Stage::DataOut { block, left, held } => numbered(1, block, left, held, 0),
+        Stage::DataIn { place, left } => numbered(2, place, left, 0, 0),
         Stage::ReplyIn { reply, place, left } => match reply {
-            Reply::Sense(sense) => numbered(3, place, left, sense_number(sense)),
-            Reply::Inquiry => numbered(4, place, left, 0),
-            Reply::ModeSense => numbered(5, place, left, 0),
-            Reply::Capacity { blocks } => numbered(6, place, left, blocks),
-            Reply::Page(page) => numbered(10, place, left, page_code(page)),
+            Reply::Sense(sense) => numbered(3, place, left, sense_number(sense), sense.information),
+            Reply::Inquiry => numbered(4, place, left, 0, 0),
+            Reply::ModeSense => numbered(5, place, left, 0, 0),
+            Reply::Capacity { blocks } => numbered(6, place, left, blocks, 0),
+            Reply::Page(page) => numbered(10, place, left, page_code(page), 0),
         },
         Stage::StatusDue { status } => match status {
-            Status::Passed => numbered(7, 0, 0, 0),
-            Status::Failed => numbered(8, 0, 0, 0),
-            Status::PhaseError => numbered(9, 0, 0, 0),
+            Status::Passed => numbered(7, 0, 0, 0, 0),
+            Status::Failed => numbered(8, 0, 0, 0, 0),
+            Status::PhaseError => numbered(9, 0, 0, 0, 0),
         },
     }
 }
@@ -96,9 +98,11 @@ pub fn flat_of(state: State) -> Flat
         place: numbers.place,
         left: numbers.left,
         value: numbers.value,
+        extra: numbers.extra,
         tag: task.tag,
         announced: task.announced,
         blocks: unit.blocks,
+        information: sense.information,
         stage: numbers.stage,
         flags,
         address: state.address,

@@ -7,16 +7,18 @@ pub struct Given {
     pub release: u16,
 }
 
-// The state as numbers. What place, left and value mean, the stage says.
+// The state as numbers. What place, left, value and extra mean, the stage says.
 #[repr(C)]
 pub struct Flat {
     pub residue: u32,
     pub place: u32,
     pub left: u32,
     pub value: u32,
+    pub extra: u32,
     pub tag: u32,
     pub announced: u32,
     pub blocks: u32,
+    pub information: u32,
     pub stage: u8,
     // Configured 1, bulk-in halted 2, bulk-out halted 4, locked 8.
     pub flags: u8,

@@ -10,7 +10,7 @@ use Rattle.wire.specs.Choice.{if_then_else_, _and_, look}
 use Rattle.wire.specs.Bits.{bits, clear}
 use Rattle.wire.specs.Numbers.{value}
 use Rattle.wire.specs.Slices.{bytesAt, zeros, startsWith}
-use Rattle.wire.proofs.Cases.{both, if-false}
+use Rattle.wire.proofs.Cases.{both, if-true, if-false}
 use Rattle.scsi.specs.Command.{blockLength, commandOf, commands}
 use Rattle.scsi.specs.Sense.{noSense}
 use Rattle.scsi.specs.declared.command.Plan.{Plan}
@@ -18,6 +18,8 @@ use Rattle.scsi.proofs.Plans.{test-has-nothing}
 use Rattle.cases.specs.Cases.{counted, meeting, caseOf}
 use Rattle.bot.specs.Cbw.{cbwSignature, inRange, readable, headerOf}
 use Rattle.bot.specs.declared.csw.Status.the-variants.{Passed}
+use Rattle.bot.proofs.Wrappers.{readable-long}
+use Rattle.machine.specs.declared.wrapper.Wrapper.{Wrapper}
 use Rattle.machine.specs.declared.wrapper.Wrapper.the-variants.{Good}
 use Rattle.machine.specs.declared.record.Stage.{Stage}
 use Rattle.machine.specs.declared.record.Stage.the-variants.{StatusDue}
@@ -35,7 +37,7 @@ use Rattle.machine.specs.Bulk.{onWrapper, outStage, packetOut}
 use Rattle.machine.specs.Machine.{Event, bulkOut, where-lent, check, checks, judgedOut, onBulkOut, Out, out, unlent, step, run, inOrder}
 use Rattle.machine.specs.Tally.{Making}
 use Rattle.machine.specs.Claim.{answers, lived, recovery, goodTest, WrapperDue}
-use Rattle.machine.specs.Beside.{Reached, IsDue, DueExactly, CanRecover}
+use Rattle.machine.specs.Beside.{Reached, IsDue, Accepts, DueExactly, CanRecover}
 use Rattle.machine.proofs.Along.{along}
 use Rattle.machine.proofs.Due.{due}
 use Rattle.machine.proofs.Reach.{Fine, fit-of, fits-of, stays-fit}
@@ -95,10 +97,21 @@ can-recover k ok es c order x y z hx hy hz =
 -- ---- where a wrapper is due, exactly
 
 -- a bulk-out packet whose checks pass
-pub out-passed : (d : Device) (m p : List ℕ) → fits (d .identity) (d .state) ≡ true → length m ≡ 512 * d .state .unit .blocks → length p ≤ 64 → d .state .configured ≡ true
+out-passed : (d : Device) (m p : List ℕ) → fits (d .identity) (d .state) ≡ true → length m ≡ 512 * d .state .unit .blocks → length p ≤ 64 → d .state .configured ≡ true
     → step d m (bulkOut p) ≡ unlent (packetOut d m p)
 unfolding step onBulkOut checks check where-lent judgedOut if_then_else_ inOrder
 out-passed d m p f n h c = simp (f, eq-eqb (length m) (512 * d .state .unit .blocks) n, le-leb (length p) 64 h, c)
+
+-- a wrapper that is accepted
+pub taken : (d : Device) (m w : List ℕ) (p : Plan) → Accepts d m w p → step d m (bulkOut w) ≡ out Ack (withState d (begun (headerOf w) p (d .state))) m []
+unfolding packetOut outStage onWrapper wrapperOf accepted
+taken d m w p a =
+    out-passed d m w (a .fit) (a .medium) (let r = readable-long w (both _ _ (a .accepts) .0) in omega arith) (a .due .configured)
+    ∙ ap unlent (
+    if-false _ _ _ (a .due .unhalted)
+    ∙ ap (λ (g : Stage). outStage g d m w) (a .due .ready)
+    ∙ ap (λ (x : Wrapper). onWrapper x d m) (if-true _ _ _ (a .accepts) ∙ ap (Good (headerOf w)) (a .plan))
+    )
 
 -- Test Unit Ready, announcing 0
 abbrev test : List ℕ

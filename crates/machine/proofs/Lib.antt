@@ -1,6 +1,7 @@
 pub mod Along
 pub mod Judge
 pub mod Requests
+pub mod EverySense
 pub mod Senses
 pub mod Fill
 pub mod Grant
@@ -17,4 +18,5 @@ pub mod StepLaws
 pub mod Beside
 pub mod Compute
 pub mod Sheet
+pub mod Refused
 pub mod Witness

@@ -9,7 +9,7 @@ use lib.ListN.{length, take, drop, length-take}
 use borrow.Author.Tests.{eq-eqb, ne-eqb, le-leb}
 use Rattle.wire.specs.Choice.{if_then_else_}
 use Rattle.wire.specs.Slices.{placed}
-use Rattle.wire.proofs.Cases.{both, by-if, if-true, if-false}
+use Rattle.wire.proofs.Cases.{by-if, if-true, if-false}
 use Rattle.scsi.specs.Command.{cut}
 use Rattle.scsi.specs.Reply.{replyData, replySize}
 use Rattle.scsi.specs.Sense.{noSense}
@@ -29,25 +29,21 @@ use Rattle.cases.specs.declared.Halt.{Halt}
 use Rattle.bot.specs.Cbw.{headerOf}
 use Rattle.bot.specs.declared.cbw.Header.{Header}
 use Rattle.bot.specs.declared.csw.Status.the-variants.{Passed}
-use Rattle.bot.proofs.Wrappers.{readable-long}
 use Rattle.usb.specs.Descriptor.{stringDescriptor}
 use Rattle.machine.specs.declared.record.Stage.{Stage}
 use Rattle.machine.specs.declared.record.Stage.the-variants.{ReplyIn, StatusDue}
 use Rattle.machine.specs.declared.record.State.{State}
 use Rattle.machine.specs.declared.record.Device.{Device}
-use Rattle.machine.specs.declared.wrapper.Wrapper.{Wrapper}
-use Rattle.machine.specs.declared.wrapper.Wrapper.the-variants.{Good}
 use Rattle.machine.specs.declared.answer.Answer.the-variants.{Data, Ack}
 use Rattle.machine.specs.Record.{moved, task, withState}
 use Rattle.machine.specs.Fits.{fits}
 use Rattle.machine.specs.Outcome.{sends}
-use Rattle.machine.specs.Wrapper.{accepted, wrapperOf}
 use Rattle.machine.specs.Begin.{hostOf, hasOf, senseOf, ownStatus, replyOf, dataStage, firstStage, haltsIn, haltsOut, sensed, staged, begunBy, begun}
-use Rattle.machine.specs.Bulk.{onWrapper, outStage, packetOut, nextIn, handedState, handedOut, onAsk, inStage, packetIn}
-use Rattle.machine.specs.Machine.{bulkOut, bulkIn, Out, out, beside, unlent, step, onBulkIn, checks, check, where-lent, judged, inOrder}
+use Rattle.machine.specs.Bulk.{nextIn, handedState, handedOut, onAsk, inStage, packetIn}
+use Rattle.machine.specs.Machine.{bulkOut, bulkIn, Out, out, beside, step, onBulkIn, checks, check, where-lent, judged, inOrder}
 use Rattle.machine.specs.Sent.{whole, first, Asks, Takes, Sends, CutReplies, SameSerial}
 use Rattle.machine.proofs.Reach.{same-kind}
-use Rattle.machine.proofs.Beside.{out-passed, fits-after}
+use Rattle.machine.proofs.Beside.{taken, fits-after}
 
 -- ---- the size
 
@@ -59,15 +55,9 @@ same-size d k allocated = length-take (min allocated (length (whole d k))) (whol
 
 -- ---- the wrapper
 
-taken : (d : Device) (m w : List ℕ) (k : ReplyKind) (allocated : ℕ) → Asks d m w k allocated → step d m (bulkOut w) ≡ out Ack (withState d (begun (headerOf w) (Reply k (min allocated (replySize k))) (d .state))) m []
-unfolding packetOut outStage onWrapper wrapperOf accepted cut
-taken d m w k allocated a =
-    out-passed d m w (a .fit) (a .medium) (let r = readable-long w (both _ _ (a .accepts) .0) in omega arith) (a .due .configured)
-    ∙ ap unlent (
-    if-false _ _ _ (a .due .unhalted)
-    ∙ ap (λ (g : Stage). outStage g d m w) (a .due .ready)
-    ∙ ap (λ (x : Wrapper). onWrapper x d m) (if-true _ _ _ (a .accepts) ∙ ap (Good (headerOf w)) (a .plan))
-    )
+asked : (d : Device) (m w : List ℕ) (k : ReplyKind) (allocated : ℕ) → Asks d m w k allocated → step d m (bulkOut w) ≡ out Ack (withState d (begun (headerOf w) (Reply k (min allocated (replySize k))) (d .state))) m []
+unfolding cut
+asked d m w k allocated a = taken d m w _ a
 
 -- no halt before the data
 later : (a n : ℕ) (i o : Bool) → (haltsIn (afterData pipe.In a n) i ≡ i) × (haltsOut (afterData pipe.In a n) o ≡ o)
@@ -96,7 +86,7 @@ begins h k n s i p l =
 ended : (h : Header) (k : ReplyKind) (s : State) → begun h (Reply k 0) s .link .task ≡ task (StatusDue Passed) (h .tag) (h .announced) (h .announced)
 unfolding begun begunBy hasOf moved staged firstStage ownStatus
 ended h k s =
-    let q = none-moves (hostOf h) in
+    let q = none-moves (hostOf h) (In 0) refl in
     λ j. task (staged (q .1 j) (q .0 j) (Reply k 0) (s .unit)) (h .tag) (h .announced) (h .announced)
 
 -- ---- the ask
@@ -141,7 +131,7 @@ some-sent d m w b k allocated a t p h =
     let low : 0 < n = omega arith in
     let high : n ≤ 64 = omega arith in
     let e₁ : step d m (bulkOut w) ≡ out Ack d₁ m [] =
-    taken d m w k allocated a ∙ ap (λ (x : State). out Ack (withState d x) m []) (begins (headerOf w) k n (d .state) (t .inward) low (omega (arith, t .room))) in
+    asked d m w k allocated a ∙ ap (λ (x : State). out Ack (withState d x) m []) (begins (headerOf w) k n (d .state) (t .inward) low (omega (arith, t .room))) in
     let f₁ = fits-after d d₁ m [] (bulkOut w) (a .fit) e₁ in
     let e₂ : step d₁ m (bulkIn b) ≡ beside m (sends (take n s) (handedOut d₁ n n more) b) =
     in-passed d₁ m b f₁ (a .medium) h (a .due .configured) ∙ ap (beside m) (handed d₁ m b (replyOf k (d .state .unit)) n (t .haltin) refl low high) in
@@ -158,7 +148,7 @@ none-sent : (d : Device) (m w : List ℕ) (k : ReplyKind) → Asks d m w k 0
     → step d m (bulkOut w) .dev .state .link .task ≡ task (StatusDue Passed) (headerOf w .tag) (headerOf w .announced) (headerOf w .announced)
 none-sent d m w k a =
     let z : min 0 (replySize k) ≡ 0 = omega arith in
-    ap (λ (o : Out). o .dev .state .link .task) (taken d m w k 0 a)
+    ap (λ (o : Out). o .dev .state .link .task) (asked d m w k 0 a)
     ∙ ap (λ (n : ℕ). begun (headerOf w) (Reply k n) (d .state) .link .task) z
     ∙ ended (headerOf w) k (d .state)
 

@@ -2,7 +2,7 @@
 use mathlib.Core.Path.{refl}
 use native.Mathlib.Omega.{arith}
 use Rattle.machine.specs.Sheet.{cbw, testUnitReady, onBlocks}
-use Rattle.machine.specs.Witness.{partWrite, WriteCut, test, tries, LockRecovered, askPage, PageCut}
+use Rattle.machine.specs.Witness.{partWrite, WriteCut, test, tries, LockRecovered, askPage, PageCut, RangeRefused}
 use Rattle.machine.proofs.Compute.{computes}
 
 pub write-cut : WriteCut
@@ -20,4 +20,10 @@ page-cut = record {
   takes = record { haltin = refl; inward = refl; room = omega arith };
   sent = refl;
   none = record { fit = refl; medium = refl; due = record { configured = refl; unhalted = refl; ready = refl }; accepts = refl; plan = refl };
+}
+
+pub range-refused : RangeRefused
+unfolding computes cbw onBlocks
+range-refused = record {
+  fails = record { fit = refl; medium = refl; due = record { configured = refl; unhalted = refl; ready = refl }; accepts = refl; plan = refl };
 }

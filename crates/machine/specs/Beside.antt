@@ -1,16 +1,19 @@
 -- Claims beside demand 3: of every step, and of every record that a collector comes to. Proved in proofs/Beside.antt and proofs/StepLaws.antt.
-use Prim.Native.Nat.{ℕ, _≤_}
+use Prim.Native.Nat.{ℕ, _*_, _≤_}
 use mathlib.Core.Path.{_≡_}
 use mathlib.Core.Logic.{_↔_}
 use mathlib.Core.Bool.{Bool, true, false}
 use mathlib.Core.List.{List, [], _∷_, _++_}
 use lib.ListN.{length, drop}
+use Rattle.scsi.specs.Command.{planOf}
+use Rattle.scsi.specs.declared.command.Plan.{Plan}
 use Rattle.machine.specs.declared.record.Stage.the-variants.{Ready}
 use Rattle.machine.specs.declared.record.Device.{Device}
 use Rattle.machine.specs.declared.answer.Answer.{Answer}
 use Rattle.machine.specs.declared.answer.Answer.the-variants.{Data, Ack, Nak, Stall, Silent, Refused}
 use Rattle.machine.specs.Record.{withState}
-use Rattle.machine.specs.Fits.{fits}
+use Rattle.machine.specs.Fits.{blockSize, fits}
+use Rattle.machine.specs.Wrapper.{accepted}
 use Rattle.machine.specs.Making.{blocksIn, make}
 use Rattle.machine.specs.Bulk.{lockedState}
 use Rattle.machine.specs.Machine.{Event, busReset, control, bulkOut, bulkIn, Out, out, step, run}
@@ -65,6 +68,14 @@ pub record IsDue (d : Device) : Type 0 where
   pub configured : d .state .configured ≡ true
   pub unhalted : d .state .link .haltout ≡ false
   pub ready : d .state .link .task .stage ≡ Ready
+
+-- A wrapper is due, and this one is accepted: the device has this for its command.
+pub record Accepts (d : Device) (m w : List ℕ) (p : Plan) : Type 0 where
+  pub fit : fits (d .identity) (d .state) ≡ true
+  pub medium : length m ≡ blockSize * d .state .unit .blocks
+  pub due : IsDue d
+  pub accepts : accepted w ≡ true
+  pub plan : planOf (drop 15 w) (d .state .unit .blocks) ≡ p
 
 -- "A wrapper is due on an unhalted pipe exactly where a good Test Unit Ready wrapper .. is answered ack, then nak."
 abbrev pub DueExactly : Type 0

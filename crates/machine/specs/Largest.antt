@@ -21,7 +21,7 @@ pub record Largest : Type 0 where
   -- The last block, and the blocks past it; "address plus count still must not wrap".
   pub last : planOf (onBlocks 0x28 0x000F_FFFF 1) mostBlocks ≡ Read 0x000F_FFFF 1
   pub end : planOf (onBlocks 0x28 0x0010_0000 0) mostBlocks ≡ Read 0x0010_0000 0
-  pub past : planOf (onBlocks 0x28 0x0010_0000 1) mostBlocks ≡ Failed outOfRange
-  pub wraps : planOf (onBlocks 0x28 0xFFFF_FFFF 1) mostBlocks ≡ Failed outOfRange
+  pub past : planOf (onBlocks 0x28 0x0010_0000 1) mostBlocks ≡ Failed (outOfRange 0x0010_0000)
+  pub wraps : planOf (onBlocks 0x28 0xFFFF_FFFF 1) mostBlocks ≡ Failed (outOfRange 0xFFFF_FFFF)
   -- A record keeps a Read's place in the medium in 32 bits: enough for every place, and for a packet more.
   pub places : blockSize * mostBlocks + packetSize ≤ 0xFFFF_FFFF

@@ -1,11 +1,11 @@
 -- What is sent of a reply or product page (document 02, A2): the first min(allocated, size) bytes of the whole; of page 80, the serial that USB tells. Proved in proofs/Sent.antt.
-use Prim.Native.Nat.{ℕ, _*_, _-_, _≤_, _<_, min}
+use Prim.Native.Nat.{ℕ, _-_, _≤_, _<_, min}
 use mathlib.Core.Path.{_≡_}
 use mathlib.Core.Bool.{true, false}
 use mathlib.Core.List.{List}
 use lib.ListN.{length, take, drop}
 use Rattle.wire.specs.Slices.{placed}
-use Rattle.scsi.specs.Command.{cut, planOf}
+use Rattle.scsi.specs.Command.{cut}
 use Rattle.scsi.specs.Page.{pageData}
 use Rattle.scsi.specs.Reply.{replyData}
 use Rattle.scsi.specs.declared.page.Page.the-variants as page
@@ -19,12 +19,10 @@ use Rattle.machine.specs.declared.record.Stage.the-variants.{StatusDue}
 use Rattle.machine.specs.declared.record.Device.{Device}
 use Rattle.machine.specs.declared.answer.Answer.the-variants.{Data}
 use Rattle.machine.specs.Record.{task}
-use Rattle.machine.specs.Fits.{blockSize, fits}
-use Rattle.machine.specs.Wrapper.{accepted}
 use Rattle.machine.specs.Begin.{replyOf}
 use Rattle.machine.specs.Bulk.{packetSize}
 use Rattle.machine.specs.Machine.{bulkOut, bulkIn, Out, step}
-use Rattle.machine.specs.Beside.{IsDue}
+use Rattle.machine.specs.Beside.{Accepts}
 
 -- The whole of a reply to a wrapper taken now.
 abbrev pub whole : Device → ReplyKind → List ℕ
@@ -34,12 +32,8 @@ abbrev pub first : ℕ → List ℕ → List ℕ
 first allocated s = take (min allocated (length s)) s
 
 -- A wrapper is due, and this one is accepted: it has a reply, cut to so many bytes.
-pub record Asks (d : Device) (m w : List ℕ) (k : ReplyKind) (allocated : ℕ) : Type 0 where
-  pub fit : fits (d .identity) (d .state) ≡ true
-  pub medium : length m ≡ blockSize * d .state .unit .blocks
-  pub due : IsDue d
-  pub accepts : accepted w ≡ true
-  pub plan : planOf (drop 15 w) (d .state .unit .blocks) ≡ cut k allocated
+abbrev pub Asks : Device → List ℕ → List ℕ → ReplyKind → ℕ → Type 0
+Asks d m w k allocated = Accepts d m w (cut k allocated)
 
 -- Bulk-in is not halted, and no fewer bytes are announced inward than these.
 pub record Takes (d : Device) (w s : List ℕ) : Type 0 where

@@ -99,7 +99,16 @@ status residue code = hands (0x55 ∷ 0x53 ∷ 0x42 ∷ 0x53 ∷ 0x08 ∷ 0x60 �
 unfoldable pub serial : String → Exchange
 serial digits = answered (control (0x80 ∷ 0x06 ∷ 0x03 ∷ 0x03 ∷ 0x09 ∷ 0x04 ∷ 0xFF ∷ 0x00 ∷ []) buffer) 0 (26 ∷ 0x03 ∷ utf16 (ascii digits))
 
--- A Read out of range: 512 bytes announced in and none sent, so that bulk-in is halted until it is cleared; status 1; then Request Sense shows 05/21/00.
+-- Request Sense, and the data that it must hand out.
+unfoldable pub senses : List ℕ → List Exchange
+senses s = commandIn requestSense 18 ∷ hands s ∷ status 0 0 ∷ []
+
+-- Sense data of 05/21/00: "F0 in byte 0 and that number, big endian, in bytes 3 to 6" (document 02, A8).
+unfoldable pub outsideData : List ℕ → List ℕ
+outsideData number = 0xF0 ∷ 0x00 ∷ 0x05 ∷ number ++ 0x0A ∷ 0x00 ∷ 0x00 ∷ 0x00 ∷ 0x00 ∷ 0x21 ∷ 0x00 ∷ 0x00 ∷ 0x00 ∷ 0x00 ∷ 0x00 ∷ []
+
+-- A Read out of range, its address outside the unit: 512 bytes announced in and none sent, so that bulk-in is halted until it is cleared; status 1; then
+-- Request Sense shows 05/21/00 and the address.
 unfoldable pub outOfRange : ℕ → ℕ → List Exchange
 outOfRange block count =
     configure
@@ -107,10 +116,7 @@ outOfRange block count =
     ∷ stalls
     ∷ cleared 0x81
     ∷ status 512 1
-    ∷ commandIn requestSense 18
-    ∷ hands (0x70 ∷ 0x00 ∷ 0x05 ∷ 0x00 ∷ 0x00 ∷ 0x00 ∷ 0x00 ∷ 0x0A ∷ 0x00 ∷ 0x00 ∷ 0x00 ∷ 0x00 ∷ 0x21 ∷ 0x00 ∷ 0x00 ∷ 0x00 ∷ 0x00 ∷ 0x00 ∷ [])
-    ∷ status 0 0
-    ∷ []
+    ∷ senses (outsideData (bigBytes 4 block))
 
 -- A packet that locks: it stalls, bulk-in stalls, Clear Feature acks and frees neither pipe.
 unfoldable pub locks : List ℕ → List Exchange

@@ -1,10 +1,12 @@
--- Closed runs in which the premises of demand 3, and of the claim on cut replies, are met. Proved in proofs/Witness.antt.
+-- Closed runs in which the premises of demand 3, and of the claims on cut replies and on failed commands, are met. Proved in proofs/Witness.antt.
 use Prim.Native.Nat.{ℕ}
 use mathlib.Core.Path.{_≡_}
 use mathlib.Core.Bool.{true, false}
 use mathlib.Core.List.{List, [], _∷_, _++_}
 use lib.ListN.{take, replicate}
 use Rattle.wire.specs.Slices.{zeros}
+use Rattle.scsi.specs.Sense.{outOfRange}
+use Rattle.scsi.specs.declared.command.Plan.the-variants.{Failed}
 use Rattle.scsi.specs.declared.page.Page.the-variants.{Serial}
 use Rattle.scsi.specs.declared.reply.ReplyKind.the-variants.{Page}
 use Rattle.machine.specs.declared.record.Device.{Device}
@@ -14,6 +16,7 @@ use Rattle.machine.specs.Making.{make}
 use Rattle.machine.specs.Machine.{Event, control, bulkOut, bulkIn, step, run}
 use Rattle.machine.specs.Tally.{Making, writing}
 use Rattle.machine.specs.Claim.{answers, lived, history, setup, recovery, settingUp, WrapperDue, isRefusal, watched}
+use Rattle.machine.specs.Beside.{Accepts}
 use Rattle.machine.specs.Sheet.{cbw, testUnitReady, onBlocks, buffer}
 use Rattle.machine.specs.Sent.{whole, first, Asks, Takes}
 
@@ -89,3 +92,8 @@ pub record PageCut : Type 0 where
   pub takes : Takes before (askPage 5) (first 5 (whole before (Page Serial)))
   pub sent : first 5 (whole before (Page Serial)) ≡ (0x00 ∷ 0x80 ∷ 0x00 ∷ 0x0C ∷ 0x30 ∷ [])
   pub none : Asks before (zeros 1024) (askPage 0) (Page Serial) 0
+
+-- ---- a Write over the end of the two blocks
+
+pub record RangeRefused : Type 0 where
+  pub fails : Accepts before (zeros 1024) (cbw 1 1024 0x00 0 (onBlocks 0x2A 1 2)) (Failed (outOfRange 2))

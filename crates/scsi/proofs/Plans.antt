@@ -1,15 +1,16 @@
 -- What a plan goes by and what it never passes: the block's first ten bytes; the unit's blocks and the reply's length. And the plans of a
--- block of zeros and of Inquiry with EVPD set. Assumes nothing.
+-- block of zeros, of Inquiry with EVPD set and of blocks outside the unit. Assumes nothing.
 use Prim.Native.Nat.{ℕ, _+_, _≤_, _<_}
 use mathlib.Core.Path.{_≡_, refl, sym, ap, _∙_}
 use mathlib.Core.List.{List, [], _∷_}
 use native.Mathlib.Omega.{arith}
-use borrow.Author.Tests.{leb-true}
-use Rattle.wire.specs.Choice.{if_then_else_, look}
+use lib.Dec.{leb}
+use borrow.Author.Tests.{leb-true, lt-leb}
+use Rattle.wire.specs.Choice.{if_then_else_, _and_, look}
 use Rattle.wire.specs.Bits.{bits, clear}
 use Rattle.wire.specs.Numbers.{big}
 use Rattle.wire.specs.Slices.{byteAt, bytesAt, zeros}
-use Rattle.wire.proofs.Cases.{by-if, look-all}
+use Rattle.wire.proofs.Cases.{by-if, if-false, look-all}
 use Rattle.wire.proofs.Lists.{bytes-same}
 use Rattle.scsi.specs.declared.command.Plan.{Plan}
 use Rattle.scsi.specs.declared.command.Plan.the-variants.{Failed, Nothing, Reply, Read, Write}
@@ -17,11 +18,11 @@ use Rattle.scsi.specs.declared.reply.ReplyKind.{ReplyKind}
 use Rattle.scsi.specs.declared.reply.ReplyKind.the-variants as kind
 use Rattle.scsi.specs.declared.page.Listed.{Listed}
 use Rattle.scsi.specs.declared.page.Listed.the-variants.{Missing, Found}
-use Rattle.scsi.specs.Sense.{invalidField}
+use Rattle.scsi.specs.Sense.{invalidField, outOfRange}
 use Rattle.scsi.specs.Page.{pageCode, pageOf}
-use Rattle.scsi.specs.Claims.{PagesServed}
+use Rattle.scsi.specs.Claims.{PagesServed, FirstOutside, RangesRefused}
 use Rattle.scsi.specs.Reply.{replySize}
-use Rattle.scsi.specs.Command.{Command, inquiryAllocation, cut, paged, inquired, within, address, count, commands, unknown, commandOf, planBy, controlClear, planOf}
+use Rattle.scsi.specs.Command.{Command, inquiryAllocation, cut, paged, inquired, firstOutside, within, address, count, commands, unknown, commandOf, planBy, controlClear, planOf}
 use Rattle.scsi.proofs.Compute.{scsi-computes}
 use Rattle.scsi.proofs.Pages.{code-found}
 
@@ -134,4 +135,25 @@ unfolding paged
 pages-served = record {
   page = λ p hi lo blocks. asked (pageCode p) hi lo blocks ∙ ap (λ (l : Listed). paged l (big (hi ∷ lo ∷ []))) (code-found p);
   other = λ code hi lo blocks e. asked code hi lo blocks ∙ ap (λ (l : Listed). paged l (big (hi ∷ lo ∷ []))) e;
+}
+
+-- ---- blocks outside the unit
+
+pub first-outside : FirstOutside
+unfolding firstOutside
+first-outside = record {
+  outside = λ a blocks. omega arith;
+  first = λ a blocks i from before. omega arith;
+  named = λ a count blocks some past. (omega arith, omega arith);
+}
+
+refused : (a c : ℕ) (p : Plan) (blocks : ℕ) → blocks < a + c → (if leb (a + c) blocks then p else Failed (outOfRange (firstOutside a blocks))) ≡ Failed (outOfRange (firstOutside a blocks))
+refused a c p blocks h = if-false _ _ _ (lt-leb _ _ h)
+
+pub ranges-refused : RangesRefused
+unfolding planOf controlClear planBy commandOf commands look within bytesAt clear bits if_then_else_ _and_
+ranges-refused = record {
+  read = λ a b c d group hi lo blocks h. refused _ _ _ blocks h;
+  write = λ a b c d group hi lo blocks h. refused _ _ _ blocks h;
+  verify = λ a b c d group hi lo blocks h. refused _ _ _ blocks h;
 }

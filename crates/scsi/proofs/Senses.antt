@@ -1,9 +1,10 @@
--- The sense that a command fails with is of bytes. Assumes nothing.
-use Prim.Native.Nat.{ℕ}
+-- Which senses a command may fail with, and that each is of bytes. Assumes nothing.
+use Prim.Native.Nat.{ℕ, _≤_}
 use mathlib.Core.List.{List}
 use native.Mathlib.Omega.{arith}
 use Rattle.wire.specs.Slices.{byteAt}
 use Rattle.wire.proofs.Cases.{by-if, look-all}
+use Rattle.scsi.specs.declared.sense.Sense.{Sense}
 use Rattle.scsi.specs.declared.command.Plan.{Plan}
 use Rattle.scsi.specs.declared.command.Plan.the-variants.{Failed, Nothing, Reply, Read, Write}
 use Rattle.scsi.specs.declared.reply.ReplyKind.{ReplyKind}
@@ -12,65 +13,75 @@ use Rattle.scsi.specs.declared.page.Listed.the-variants.{Missing, Found}
 use Rattle.scsi.specs.Page.{pageOf}
 use Rattle.scsi.specs.Sense.{IsSense, noSense, invalidCode, invalidField, outOfRange, dataPhase}
 use Rattle.scsi.specs.Command.{Command, inquiryAllocation, cut, paged, inquired, within, commands, unknown, commandOf, planBy, controlClear, planOf}
+use Rattle.scsi.proofs.Plans.{first-outside}
 
--- ---- the named ones
+-- What holds of a plan's sense, if it fails.
+abbrev pub PlanSense : (Sense → Type 0) → Plan → Type 0
+PlanSense P (Failed s) = P s
+PlanSense P Nothing = Unit {0}
+PlanSense P (Reply k n) = Unit {0}
+PlanSense P (Read block count) = Unit {0}
+PlanSense P (Write block count) = Unit {0}
+
+-- ---- what holds of the three senses holds of every plan's
+
+-- of the range failures that a unit of so many blocks can have
+pub record Failing (P : Sense → Type 0) (blocks : ℕ) : Type 0 where
+  pub code : P invalidCode
+  pub field : P invalidField
+  pub range : (block : ℕ) → blocks ≤ block → P (outOfRange block)
+
+module _ (P : Sense → Type 0) where
+  abbrev Fitting : Command → Type 0
+  Fitting c = (blocks : ℕ) → Failing P blocks → (b : List ℕ) → PlanSense P (c .has blocks b)
+
+  none : (n : ℕ) → Failing P n → (b : List ℕ) → Unit {0}
+  none n f b = tt
+
+  cuts : (k : ReplyKind) (allocated : List ℕ → ℕ) (n : ℕ) → Failing P n → (b : List ℕ) → PlanSense P (cut k (allocated b))
+  unfolding cut
+  cuts k allocated n f b = tt
+
+  pages : (p : Listed) (allocated : ℕ) → P invalidField → PlanSense P (paged p allocated)
+  unfolding paged cut
+  pages Missing allocated h = h
+  pages (Found p) allocated h = tt
+
+  inquiries : (n : ℕ) → Failing P n → (b : List ℕ) → PlanSense P (inquired b)
+  unfolding inquired cut
+  inquiries n f b =
+      by-if (PlanSense P) _ _ _ (λ _. by-if (PlanSense P) _ _ _ (λ _. tt) (λ _. f .field))
+      (λ _. pages (pageOf (byteAt b 2)) (inquiryAllocation b) (f .field))
+
+  ranges : (p : List ℕ → Plan) → ((b : List ℕ) → PlanSense P (p b)) → (n : ℕ) → Failing P n → (b : List ℕ) → PlanSense P (within n b (p b))
+  unfolding within
+  ranges p h n f b = by-if (PlanSense P) _ (p b) _ (λ _. h b) (λ _. f .range _ (first-outside .outside _ n))
+
+  every-row : (code : ℕ) → Fitting (commandOf code)
+  unfolding commandOf commands
+  every-row code =
+      look-all Fitting _ code unknown
+      (none, (cuts _ _, (inquiries, (cuts _ _, (none, (none, (ranges _ (λ _. tt), (ranges _ (λ _. tt), (ranges _ (λ _. tt), tt)))))))))
+      (λ n f b. f .code)
+
+  pub plan-sense : (b : List ℕ) (blocks : ℕ) → Failing P blocks → PlanSense P (planOf b blocks)
+  unfolding planOf planBy
+  plan-sense b blocks f =
+      by-if (PlanSense P) (controlClear b) _ _
+      (λ _. by-if (PlanSense P) _ _ _ (λ _. every-row (byteAt b 0) blocks f b) (λ _. f .field))
+      (λ _. f .field)
+
+-- ---- of bytes
 
 pub no-sense : IsSense noSense
 no-sense = record { key = omega arith; asc = omega arith; ascq = omega arith }
 
-invalid-code : IsSense invalidCode
-invalid-code = record { key = omega arith; asc = omega arith; ascq = omega arith }
-
-invalid-field : IsSense invalidField
-invalid-field = record { key = omega arith; asc = omega arith; ascq = omega arith }
-
-out-of-range : IsSense outOfRange
-out-of-range = record { key = omega arith; asc = omega arith; ascq = omega arith }
-
 pub data-phase : IsSense dataPhase
 data-phase = record { key = omega arith; asc = omega arith; ascq = omega arith }
 
--- ---- of a plan
-
-abbrev pub SenseFits : Plan → Type 0
-SenseFits (Failed s) = IsSense s
-SenseFits Nothing = Unit {0}
-SenseFits (Reply k n) = Unit {0}
-SenseFits (Read block count) = Unit {0}
-SenseFits (Write block count) = Unit {0}
-
-abbrev Fitting : Command → Type 0
-Fitting c = (blocks : ℕ) (b : List ℕ) → SenseFits (c .has blocks b)
-
-none : (n : ℕ) (b : List ℕ) → Unit {0}
-none n b = tt
-
-cuts : (k : ReplyKind) (allocated : List ℕ → ℕ) (n : ℕ) (b : List ℕ) → SenseFits (cut k (allocated b))
-unfolding cut
-cuts k allocated n b = tt
-
-pages : (p : Listed) (allocated : ℕ) → SenseFits (paged p allocated)
-unfolding paged cut
-pages Missing allocated = invalid-field
-pages (Found p) allocated = tt
-
-inquiries : (n : ℕ) (b : List ℕ) → SenseFits (inquired b)
-unfolding inquired cut
-inquiries n b =
-    by-if SenseFits _ _ _ (λ _. by-if SenseFits _ _ _ (λ _. tt) (λ _. invalid-field)) (λ _. pages (pageOf (byteAt b 2)) (inquiryAllocation b))
-
-ranges : (p : List ℕ → Plan) → ((b : List ℕ) → SenseFits (p b)) → (n : ℕ) (b : List ℕ) → SenseFits (within n b (p b))
-unfolding within
-ranges p h n b = by-if SenseFits _ (p b) _ (λ _. h b) (λ _. out-of-range)
-
-every-row : (code : ℕ) → Fitting (commandOf code)
-unfolding commandOf commands
-every-row code =
-    look-all Fitting _ code unknown
-    (none, (cuts _ _, (inquiries, (cuts _ _, (none, (none, (ranges _ (λ _. tt), (ranges _ (λ _. tt), (ranges _ (λ _. tt), tt)))))))))
-    (λ n b. invalid-code)
-
-pub sense-fits : (b : List ℕ) (blocks : ℕ) → SenseFits (planOf b blocks)
-unfolding planOf planBy
-sense-fits b blocks =
-    by-if SenseFits (controlClear b) _ _ (λ _. by-if SenseFits _ _ _ (λ _. every-row (byteAt b 0) blocks b) (λ _. invalid-field)) (λ _. invalid-field)
+pub failing-bytes : (blocks : ℕ) → Failing IsSense blocks
+failing-bytes blocks = record {
+  code = record { key = omega arith; asc = omega arith; ascq = omega arith };
+  field = record { key = omega arith; asc = omega arith; ascq = omega arith };
+  range = λ block h. record { key = omega arith; asc = omega arith; ascq = omega arith };
+}

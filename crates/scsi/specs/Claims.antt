@@ -1,9 +1,11 @@
--- What is claimed of replies and pages. Proved in proofs/Replies.antt, proofs/Pages.antt and proofs/Plans.antt.
-use Prim.Native.Nat.{ℕ, _<_, _^_}
+-- What is claimed of replies, pages and refused blocks. Proved in proofs/Replies.antt, proofs/Pages.antt and proofs/Plans.antt.
+use Prim.Native.Nat.{ℕ, _+_, _≤_, _<_, _^_}
 use mathlib.Core.Path.{_≡_}
+use mathlib.Core.Bool.{false}
 use mathlib.Core.List.{[], _∷_, _++_}
 use lib.ListN.{length}
-use Rattle.wire.specs.Numbers.{big}
+use Rattle.wire.specs.Numbers.{big, bigBytes}
+use Rattle.wire.specs.Slices.{zeros}
 use Rattle.wire.specs.Texts.{ascii, serialText}
 use Rattle.scsi.specs.declared.command.Plan.the-variants.{Failed}
 use Rattle.scsi.specs.declared.page.Page.{Page}
@@ -11,10 +13,11 @@ use Rattle.scsi.specs.declared.page.Page.the-variants.{Supported, Serial
 use Rattle.scsi.specs.declared.page.Listed.the-variants.{Missing}
 use Rattle.scsi.specs.declared.reply.ReplyKind.the-variants as kind
 use Rattle.scsi.specs.declared.reply.Reply.{Reply}
-use Rattle.scsi.specs.Sense.{invalidField}
+use Rattle.scsi.specs.declared.sense.Sense.{Sense}
+use Rattle.scsi.specs.Sense.{invalidField, outOfRange, isOutOfRange}
 use Rattle.scsi.specs.Page.{pageCode, pageOf, pageData}
-use Rattle.scsi.specs.Command.{cut, planOf}
-use Rattle.scsi.specs.Reply.{replyData, kindOf, replySize}
+use Rattle.scsi.specs.Command.{cut, firstOutside, planOf}
+use Rattle.scsi.specs.Reply.{senseData, replyData, kindOf, replySize}
 
 -- The whole of a reply is as long as its size says, whatever its values and the collector number.
 abbrev pub Sizes : Type 0
@@ -35,3 +38,26 @@ pub record PageBytes : Type 0 where
 pub record Serials : Type 0 where
   pub page-80 : (x y : ℕ) → x < 10 ^ 12 → y < 10 ^ 12 → pageData x Serial ≡ pageData y Serial → x ≡ y
   pub page-83 : (x y : ℕ) → x < 10 ^ 12 → y < 10 ^ 12 → pageData x Identification ≡ pageData y Identification → x ≡ y
+
+-- "the first block outside the unit" (document 02, A8): it lies outside, the blocks from the address up to it do not, and the command names it if it
+-- names any.
+pub record FirstOutside : Type 0 where
+  pub outside : (a blocks : ℕ) → blocks ≤ firstOutside a blocks
+  pub first : (a blocks i : ℕ) → a ≤ i → i < firstOutside a blocks → i < blocks
+  pub named : (a count blocks : ℕ) → 0 < count → blocks < a + count → (a ≤ firstOutside a blocks) × (firstOutside a blocks < a + count)
+
+-- A command on blocks that do not all lie in the unit, count 0 included, its flags and its control byte clear.
+abbrev pub Refuses : ℕ → Type 0
+Refuses code =
+    (a b c d group hi lo blocks : ℕ) → blocks < big (a ∷ b ∷ c ∷ d ∷ []) + big (hi ∷ lo ∷ [])
+    → planOf (code ∷ 0x00 ∷ a ∷ b ∷ c ∷ d ∷ group ∷ hi ∷ lo ∷ 0x00 ∷ []) blocks ≡ Failed (outOfRange (firstOutside (big (a ∷ b ∷ c ∷ d ∷ [])) blocks))
+
+pub record RangesRefused : Type 0 where
+  pub read : Refuses 0x28
+  pub write : Refuses 0x2A
+  pub verify : Refuses 0x2F
+
+-- The sense's bytes, in full: a range failure's, and any other's, whatever its information.
+pub record SenseBytes : Type 0 where
+  pub range : (block : ℕ) → senseData (outOfRange block) ≡ (0xF0 ∷ 0x00 ∷ 0x05 ∷ bigBytes 4 block ++ 0x0A ∷ zeros 4 ++ 0x21 ∷ 0x00 ∷ zeros 4)
+  pub other : (s : Sense) → isOutOfRange s ≡ false → senseData s ≡ (0x70 ∷ 0x00 ∷ s .key ∷ zeros 4 ++ 0x0A ∷ zeros 4 ++ s .asc ∷ s .ascq ∷ zeros 4)

@@ -1,5 +1,5 @@
--- What the device has for a command (document 01, "Commands"; document 02, A1, A2 and A12): one row for each operation code.
-use Prim.Native.Nat.{ℕ, _+_, _-_, min}
+-- What the device has for a command (document 01, "Commands"; document 02, A1, A2, A8 and A12): one row for each operation code.
+use Prim.Native.Nat.{ℕ, _+_, _-_, min, max}
 use mathlib.Core.Bool.{Bool, true}
 use mathlib.Core.List.{List, [], _∷_}
 use lib.Dec.{eqb, leb}
@@ -60,9 +60,13 @@ address b = big (bytesAt 4 2 b)
 abbrev pub count : List ℕ → ℕ
 count b = big (bytesAt 2 7 b)
 
+-- "the first block outside the unit, the larger of the address and the number of blocks" (document 02, A8)
+unfoldable pub firstOutside : ℕ → ℕ → ℕ
+firstOutside a blocks = max a blocks
+
 -- "address plus count must not pass the number of blocks, count 0 included"
 unfoldable pub within : ℕ → List ℕ → Plan → Plan
-within blocks b p = if leb (address b + count b) blocks then p else Failed outOfRange
+within blocks b p = if leb (address b + count b) blocks then p else Failed (outOfRange (firstOutside (address b) blocks))
 
 -- "byte 1 bits 5 to 7 clear", of every command on blocks
 abbrev pub unflagged : List ℕ → Bool

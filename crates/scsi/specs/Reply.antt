@@ -1,6 +1,7 @@
--- The bytes of the replies, and how many they are (document 01, "Commands"; document 02, A2).
+-- The bytes of the replies, and how many they are (document 01, "Commands"; document 02, A2 and A8).
 use Prim.Native.Nat.{ℕ, _-_}
 use mathlib.Core.List.{List, [], _∷_, _++_}
+use Rattle.wire.specs.Choice.{if_then_else_}
 use Rattle.wire.specs.Numbers.{bigBytes}
 use Rattle.wire.specs.Packet.{packetOf}
 use Rattle.wire.specs.Slices.{zeros}
@@ -11,11 +12,16 @@ use Rattle.scsi.specs.declared.reply.ReplyKind.{ReplyKind}
 use Rattle.scsi.specs.declared.reply.ReplyKind.the-variants as kind
 use Rattle.scsi.specs.declared.reply.Reply.{Reply}
 use Rattle.scsi.specs.declared.reply.Reply.the-variants as reply
+use Rattle.scsi.specs.Sense.{isOutOfRange}
 use Rattle.scsi.specs.Page.{pageData, pageSize}
 
--- Fixed format (SPC-3, 4.5.3).
+-- Fixed format (SPC-3, 4.5.3): bit 7 of the first byte, VALID, says whether the INFORMATION field, bytes 3 to 6, has something to tell.
+unfoldable pub fixedFormat : ℕ → ℕ → Sense → List ℕ
+fixedFormat code information s = code ∷ 0x00 ∷ s .key ∷ bigBytes 4 information ++ 0x0A ∷ zeros 4 ++ s .asc ∷ s .ascq ∷ zeros 4
+
+-- "Request Sense then sends F0 in byte 0 and that number, big endian, in bytes 3 to 6; other senses keep 70 and zeros." (document 02, A8)
 unfoldable pub senseData : Sense → List ℕ
-senseData s = 0x70 ∷ 0x00 ∷ s .key ∷ zeros 4 ++ 0x0A ∷ zeros 4 ++ s .asc ∷ s .ascq ∷ zeros 4
+senseData s = if isOutOfRange s then fixedFormat 0xF0 (s .information) s else fixedFormat 0x70 0 s
 
 -- Standard INQUIRY data (SPC-3, 6.4.2).
 unfoldable pub inquiryData : List ℕ

@@ -1,4 +1,5 @@
--- Sense (SPC-3, 4.5; document 01, "Commands"): key, additional code, qualifier. Each value is named once.
+-- Sense (SPC-3, 4.5; document 01, "Commands"; document 02, A8): key, additional code, qualifier, and the information that a range failure has.
+-- Each value is named once.
 use Prim.Native.Nat.{ℕ, _<_}
 use mathlib.Core.Bool.{Bool}
 use lib.Dec.{eqb}
@@ -6,7 +7,7 @@ use Rattle.wire.specs.Choice.{_and_}
 use Rattle.scsi.specs.declared.sense.Sense.{Sense}
 
 abbrev pub sense : ℕ → ℕ → ℕ → Sense
-sense k a q = record { key = k; asc = a; ascq = q }
+sense k a q = record { key = k; asc = a; ascq = q; information = 0 }
 
 abbrev pub noSense : Sense
 noSense = sense 0x00 0x00 0x00
@@ -17,16 +18,21 @@ invalidCode = sense 0x05 0x20 0x00
 abbrev pub invalidField : Sense
 invalidField = sense 0x05 0x24 0x00
 
-abbrev pub outOfRange : Sense
-outOfRange = sense 0x05 0x21 0x00
+-- "A range failure's sense now also carries the first block outside the unit" (document 02, A8)
+abbrev pub outOfRange : ℕ → Sense
+outOfRange block = record { key = 0x05; asc = 0x21; ascq = 0x00; information = block }
 
 abbrev pub dataPhase : Sense
 dataPhase = sense 0x0B 0x4B 0x00
 
 unfoldable pub isNoSense : Sense → Bool
-isNoSense s = eqb (s .key) 0 and eqb (s .asc) 0 and eqb (s .ascq) 0
+isNoSense s = eqb (s .key) 0 and eqb (s .asc) 0 and eqb (s .ascq) 0 and eqb (s .information) 0
 
--- The values that a sense's fields hold.
+-- A range failure, whichever block it carries.
+unfoldable pub isOutOfRange : Sense → Bool
+isOutOfRange s = eqb (s .key) 0x05 and eqb (s .asc) 0x21 and eqb (s .ascq) 0x00
+
+-- Key, code and qualifier are bytes.
 pub record IsSense (s : Sense) : Type 0 where
   pub key : s .key < 256
   pub asc : s .asc < 256

@@ -1,6 +1,6 @@
 // The command reader: a command block, read where it stands, and the number of blocks give what the device has for it.
 ghost use mathlib.Core.Path.{_≡_};
-ghost use Rattle.scsi.specs.Command.{blockLength, controlClear, planOf, planBy, allocation, cut, paged, rangedOf};
+ghost use Rattle.scsi.specs.Command.{blockLength, controlClear, planOf, planBy, allocation, cut, paged, firstOutside, rangedOf};
 ghost use Rattle.scsi.specs.Page.{pageOf};
 ghost use Rattle.scsi.specs.Command.{requestSense, inquiry, modeSense, preventAllow, read10, write10, verify10};
 use crate::page::Listed;
@@ -101,6 +101,13 @@ fn page(code: u8, allocated: u16) -> Plan
     }
 }
 
+// The first block outside the unit that a command from this address on meets.
+fn first_outside(address: u32, blocks: u32) -> u32
+    ensures { λ r. ⌜ r ≡ firstOutside address blocks ⌝ }
+{
+    if address < blocks { blocks } else { address }
+}
+
 // A command on blocks has what is given, if its flags are clear and its blocks lie in the unit.
 // The sum is taken in 64 bits: it may pass the largest u32.
 fn ranged(block: &[u8], blocks: u32, given: Plan) -> Plan
@@ -112,7 +119,7 @@ fn ranged(block: &[u8], blocks: u32, given: Plan) -> Plan
     let first = be32(block, 2);
     let count = be16(block, 7);
     if (blocks as u64) < (first as u64) + (count as u64) {
-        return Plan::Failed(Sense::OUT_OF_RANGE);
+        return Plan::Failed(Sense::out_of_range(first_outside(first, blocks)));
     }
     given
 }

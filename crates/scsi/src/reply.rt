@@ -2,7 +2,7 @@
 // for, those of a page of the collector number, which never changes.
 ghost use mathlib.Core.Path.{_≡_};
 ghost use Prim.Native.Nat.{_-_};
-ghost use Rattle.scsi.specs.Reply.{kindOf, replySize, replyPacket, senseData, inquiryData, capacityData};
+ghost use Rattle.scsi.specs.Reply.{kindOf, replySize, replyPacket, fixedFormat, senseData, inquiryData, capacityData};
 use crate::page::Page;
 use crate::page::page_bytes;
 use crate::page::page_size;
@@ -68,16 +68,28 @@ pub fn reply_bytes(reply: Reply, number: u64) -> Packet
     }
 }
 
-fn sense_data(sense: Sense) -> [u8; 18]
-    ensures { λ r. ⌜ r ≡ senseData sense ⌝ }
+// Bit 7 of the code says whether the information has something to tell.
+fn fixed_format(code: u8, information: u32, sense: Sense) -> [u8; 18]
+    ensures { λ r. ⌜ r ≡ fixedFormat code information sense ⌝ }
 {
     let mut data = [0; 18];
-    data[0] = 0x70;
+    put_be32(&mut data, 3, information);
+    data[0] = code;
     data[2] = sense.key;
     data[7] = 0x0A;
     data[12] = sense.asc;
     data[13] = sense.ascq;
     data
+}
+
+// A range failure tells its block.
+fn sense_data(sense: Sense) -> [u8; 18]
+    ensures { λ r. ⌜ r ≡ senseData sense ⌝ }
+{
+    if sense.is_out_of_range() {
+        return fixed_format(0xF0, sense.information, sense);
+    }
+    fixed_format(0x70, 0, sense)
 }
 
 fn inquiry_data() -> [u8; 36]

@@ -1,8 +1,11 @@
 // Sense data (SPC-3, 4.5): why the last command failed.
 ghost use mathlib.Core.Path.{_≡_};
-ghost use Rattle.scsi.specs.Sense.{noSense, isNoSense};
+ghost use Rattle.scsi.specs.Sense.{noSense, outOfRange, isNoSense, isOutOfRange};
 
+// The number stands first: a plan holds a sense or a block's number, and the two numbers then lie in one place.
 pub struct Sense {
+    // Of a range failure, the first block outside the unit; of any other, 0.
+    pub information: u32,
     pub key: u8,
     pub asc: u8,
     pub ascq: u8,
@@ -10,35 +13,45 @@ pub struct Sense {
 
 impl Sense {
     pub const NONE: Sense = Sense {
+        information: 0,
         key: 0x00,
         asc: 0x00,
         ascq: 0x00,
     };
 
     pub const INVALID_CODE: Sense = Sense {
+        information: 0,
         key: 0x05,
         asc: 0x20,
         ascq: 0x00,
     };
 
     pub const INVALID_FIELD: Sense = Sense {
+        information: 0,
         key: 0x05,
         asc: 0x24,
         ascq: 0x00,
     };
 
-    pub const OUT_OF_RANGE: Sense = Sense {
-        key: 0x05,
-        asc: 0x21,
-        ascq: 0x00,
-    };
-
     // A data-out packet of the wrong length.
     pub const DATA_PHASE: Sense = Sense {
+        information: 0,
         key: 0x0B,
         asc: 0x4B,
         ascq: 0x00,
     };
+
+    // A range failure, with the first block outside the unit.
+    pub fn out_of_range(block: u32) -> Sense
+        ensures { λ r. ⌜ r ≡ outOfRange block ⌝ }
+    {
+        Sense {
+            information: block,
+            key: 0x05,
+            asc: 0x21,
+            ascq: 0x00,
+        }
+    }
 
     // The sense of a fresh unit.
     pub fn new() -> Sense
@@ -53,10 +66,30 @@ impl Sense {
         let key = self.key;
         let asc = self.asc;
         let ascq = self.ascq;
+        let information = self.information;
         if key != 0 {
             return false;
         }
         if asc != 0 {
+            return false;
+        }
+        if ascq != 0 {
+            return false;
+        }
+        information == 0
+    }
+
+    // A range failure, whichever block it carries.
+    pub fn is_out_of_range(self) -> bool
+        ensures { λ r. ⌜ r ≡ isOutOfRange self ⌝ }
+    {
+        let key = self.key;
+        let asc = self.asc;
+        let ascq = self.ascq;
+        if key != 0x05 {
+            return false;
+        }
+        if asc != 0x21 {
             return false;
         }
         ascq == 0

@@ -3,9 +3,12 @@
 /// The packets' size: document 01 has no other.
 pub const PACKET: usize = 64;
 
+/// COLLECTOR_RECORD_SIZE.
+const RECORD: usize = 576;
+
 /// `collector_record`. Its fields are the device's own; here only its size and alignment count.
 #[repr(C, align(8))]
-struct Record([u8; 568]);
+struct Record([u8; RECORD]);
 
 /// `collector_answer`, which comes back by value.
 #[repr(C)]
@@ -15,7 +18,7 @@ struct RawAnswer {
 }
 
 const _: () =
-    assert!(size_of::<Record>() == 568 && align_of::<Record>() == 8 && size_of::<RawAnswer>() == 16);
+    assert!(size_of::<Record>() == RECORD && align_of::<Record>() == 8 && size_of::<RawAnswer>() == 16);
 
 extern "C" {
     fn collector_make(
@@ -91,7 +94,7 @@ pub struct Collector {
 impl Collector {
     /// A newly made device over a medium, or the number of the refusal and the medium back.
     pub fn make(identity: Identity, medium: Vec<u8>) -> Result<Self, (u32, Vec<u8>)> {
-        let mut record = Box::new(Record([0; 568]));
+        let mut record = Box::new(Record([0; RECORD]));
         let Identity { number, vendor, product, release } = identity;
         // SAFETY: the record is a record's size and alignment, the medium valid for its length, and neither outlives the call.
         let raw = unsafe {

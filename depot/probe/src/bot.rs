@@ -38,6 +38,10 @@ pub fn write_10(block: u32, count: u16) -> [u8; 10] {
     ten(0x2A, block, count)
 }
 
+pub fn verify_10(block: u32, count: u16) -> [u8; 10] {
+    ten(0x2F, block, count)
+}
+
 /// One block, by a whole command that passes.
 pub fn read_block(device: &Device, tag: u32, block: u32) -> Result<Vec<u8>> {
     device.bulk_out(&cbw(tag, BLOCK as u32, true, 0, &read_10(block, 1)), None)?;

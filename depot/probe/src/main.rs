@@ -4,6 +4,7 @@
 //! of them, and no other block may change. Prints a line for each check: its name, `ok` or `FAILED`, and what was seen.
 
 mod bot;
+mod information;
 mod pages;
 mod usbfs;
 
@@ -37,7 +38,7 @@ fn passes<T>(what: &str, result: Result<T>) -> std::result::Result<T, String> {
 
 fn equal(what: &str, got: &[u8], expected: &[u8]) -> std::result::Result<(), String> {
     let shown = |bytes: &[u8]| match bytes.len() {
-        0..=16 => format!("{bytes:02X?}"),
+        0..=18 => format!("{bytes:02X?}"),
         length => format!("{length} bytes"),
     };
     if got == expected {
@@ -183,7 +184,7 @@ impl Probe {
 fn run(path: &str, before: &str, data: &str) -> Result<()> {
     let probe =
         Probe { device: Device::open(path)?, before: std::fs::read(before)?, data: std::fs::read(data)? };
-    let checks: [(&str, Check); 15] = [
+    let checks: [(&str, Check); 21] = [
         ("early-ask", Probe::early_ask),
         ("waiting-ask", Probe::waiting_ask),
         ("early-wrapper", Probe::early_wrapper),
@@ -193,6 +194,12 @@ fn run(path: &str, before: &str, data: &str) -> Result<()> {
         ("page-of-0", Probe::page_of_0),
         ("page-phase-error", Probe::page_phase_error),
         ("page-codes", Probe::page_codes),
+        ("information-bytes", Probe::information_bytes),
+        ("information-other-senses", Probe::information_other_senses),
+        ("information-after-passed", Probe::information_after_passed),
+        ("information-cut", Probe::information_cut),
+        ("information-stays", Probe::information_stays),
+        ("information-after-drops", Probe::information_after_drops),
         ("short-wrapper-locks", Probe::short_wrapper),
         ("other-unit-locks", Probe::other_unit),
         ("reset-in-read", Probe::reset_in_read),

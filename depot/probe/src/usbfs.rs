@@ -10,6 +10,7 @@ const BULK: u64 = 0xC018_5502;
 const SUBMITURB: u64 = 0x8038_550A;
 const REAPURB: u64 = 0x4008_550C;
 const CLAIMINTERFACE: u64 = 0x8004_550F;
+const RELEASEINTERFACE: u64 = 0x8004_5510;
 const RESET: u64 = 0x5514;
 const CLEAR_HALT: u64 = 0x8004_5515;
 const URB_TYPE_BULK: u8 = 3;
@@ -130,6 +131,13 @@ impl Device {
     /// A reset of the port.
     pub fn reset(&self) -> Result<()> {
         self.call(RESET, &mut 0u8).map(|_| ())
+    }
+
+    /// The same while nobody has the interface: only one that was taken is given to its driver afterwards.
+    pub fn reset_without_driver(&self) -> Result<()> {
+        self.call(RELEASEINTERFACE, &mut 0u32)?;
+        self.reset()?;
+        self.call(CLAIMINTERFACE, &mut 0u32).map(|_| ())
     }
 
     /// Asks without waiting.

@@ -1,6 +1,7 @@
 //! The faults: each a slip that this trade makes, or one that a first firmware has. A fault changes what the ordinary device
 //! is lent before the event, or what it did after it; `before` is the record that the event found.
 
+mod information;
 mod pages;
 
 use crate::capi::CAnswer;
@@ -35,6 +36,14 @@ pub enum Fault {
     Sense,
     /// Address plus count summed in 32 bits, in Verify.
     Sum,
+    /// A range failure names its address also where that is in the unit (document 02, A8).
+    InformationAddress,
+    /// A range failure's number comes with 70, without the bit that makes it one.
+    InformationValid,
+    /// A range failure's number in little endian.
+    InformationOrder,
+    /// Where the sense is cleared, the number stays until Request Sense has told it.
+    InformationKept,
     /// LINK and NACA in the control byte are ignored (document 02, A12).
     Control,
     /// Inquiry's allocation length is byte 4 alone, as it was before document 02, A1.
@@ -75,7 +84,7 @@ pub enum Fault {
     Wrap65536,
 }
 
-const NAMES: [(&str, Fault); 26] = [
+const NAMES: [(&str, Fault); 30] = [
     ("none", Fault::None),
     ("digits", Fault::Digits),
     ("capacity", Fault::Capacity),
@@ -83,6 +92,10 @@ const NAMES: [(&str, Fault); 26] = [
     ("tag", Fault::Tag),
     ("sense", Fault::Sense),
     ("sum", Fault::Sum),
+    ("information-address", Fault::InformationAddress),
+    ("information-valid", Fault::InformationValid),
+    ("information-order", Fault::InformationOrder),
+    ("information-kept", Fault::InformationKept),
     ("control", Fault::Control),
     ("inquiry-length", Fault::InquiryLength),
     ("page-digits", Fault::PageDigits),
@@ -248,16 +261,20 @@ pub fn bulk_out(record: &mut Record, packet: &[u8]) {
     match chosen() {
         Fault::Wrap4096 => wrap(record, 4096),
         Fault::Wrap65536 => wrap(record, 65_536),
-        Fault::Sense if record.stage == stage::REQUEST_SENSE => record.value = 0,
+        Fault::Sense if record.stage == stage::REQUEST_SENSE => (record.value, record.extra) = (0, 0),
         Fault::Sum if record.stage == stage::FAILED && packet.len() == WRAPPER && packet[COMMAND] == 0x2F => {
             let address = u32::from_be_bytes(packet[17..21].try_into().unwrap());
             let count = u16::from_be_bytes(packet[22..24].try_into().unwrap());
             if address.wrapping_add(count.into()) <= record.blocks {
                 record.stage = stage::PASSED;
                 (record.sense_key, record.sense_asc, record.sense_ascq) = (0, 0, 0);
+                record.sense_information = 0;
             }
         }
-        _ => pages::begin(record),
+        _ => {
+            pages::begin(record);
+            information::begin(record, packet);
+        }
     }
 }
 
@@ -279,7 +296,10 @@ pub fn bulk_in(before: &Record, record: &mut Record, buffer: &mut [u8], answer: 
         Fault::Residue if before.stage == stage::PASSED => buffer[8..12].fill(0),
         Fault::Wrap4096 => wrap(record, 4096),
         Fault::Wrap65536 => wrap(record, 65_536),
-        _ => pages::send(before, &mut buffer[..answer.count]),
+        _ => {
+            pages::send(before, &mut buffer[..answer.count]);
+            information::send(before, &mut buffer[..answer.count]);
+        }
     }
     answer
 }

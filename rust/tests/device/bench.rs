@@ -86,11 +86,17 @@ impl Bench {
         assert_eq!(self.status(), (residue, status), "{block:02X?}");
     }
 
-    /// Key, ASC and ASCQ by Request Sense.
-    pub fn sense(&mut self) -> [u8; 3] {
+    /// What Request Sense sends.
+    pub fn sense_data(&mut self) -> Vec<u8> {
         self.command(18, true, &[0x03, 0, 0, 0, 18, 0]);
         let reply = self.ask().unwrap();
         assert_eq!(self.status(), (0, 0));
+        reply
+    }
+
+    /// Key, ASC and ASCQ by Request Sense.
+    pub fn sense(&mut self) -> [u8; 3] {
+        let reply = self.sense_data();
         [reply[2], reply[12], reply[13]]
     }
 }

@@ -1,6 +1,7 @@
 //! The control byte (document 02, A12): LINK, FLAG and NACA are refused, in the code's own last byte and nowhere else.
 
 use crate::bench::{block10, Bench};
+use crate::commands::{nine, Command};
 use ordinary::device::{Answer, BLOCK};
 
 const FIELD: [u8; 3] = [0x05, 0x24, 0x00];
@@ -8,53 +9,6 @@ const RANGE: [u8; 3] = [0x05, 0x21, 0x00];
 const OPERATION: [u8; 3] = [0x05, 0x20, 0x00];
 const LOW_BITS: u8 = 0x07;
 const BLOCKS: usize = 16;
-
-/// A command that passes, and the data that it moves.
-#[derive(Clone)]
-struct Command {
-    announced: u32,
-    data_in: bool,
-    block: Vec<u8>,
-}
-
-impl Command {
-    fn new(announced: u32, data_in: bool, block: &[u8]) -> Command {
-        Command { announced, data_in, block: block.to_vec() }
-    }
-
-    /// Bits are set in the block's last byte.
-    fn with_control(&self, bits: u8) -> Command {
-        let mut command = self.clone();
-        *command.block.last_mut().unwrap() |= bits;
-        command
-    }
-
-    /// The block is made 16 bytes long; `byte` stands in each one that is added.
-    fn lengthened(&self, byte: u8) -> Command {
-        let mut command = self.clone();
-        command.block.resize(16, byte);
-        command
-    }
-
-    fn begin(&self, bench: &mut Bench) {
-        bench.command(self.announced, self.data_in, &self.block);
-    }
-}
-
-/// One of each code of the table. Address and count are `address` and 1 block where the code has them.
-fn nine(address: u32) -> [Command; 9] {
-    [
-        Command::new(0, false, &[0x00, 0, 0, 0, 0, 0]),
-        Command::new(18, true, &[0x03, 0, 0, 0, 18, 0]),
-        Command::new(36, true, &[0x12, 0, 0, 0, 36, 0]),
-        Command::new(4, true, &[0x1A, 0, 0x3F, 0, 4, 0]),
-        Command::new(0, false, &[0x1E, 0, 0, 0, 0, 0]),
-        Command::new(8, true, &block10(0x25, address, 0)),
-        Command::new(512, true, &block10(0x28, address, 1)),
-        Command::new(512, false, &block10(0x2A, address, 1)),
-        Command::new(0, false, &block10(0x2F, address, 1)),
-    ]
-}
 
 /// A bench whose blocks differ from one another.
 fn numbered() -> Bench {
@@ -69,15 +23,7 @@ fn numbered() -> Bench {
 fn passes(command: &Command) -> (Vec<u8>, Vec<u8>) {
     let mut bench = numbered();
     command.begin(&mut bench);
-    let mut received = vec![];
-    for _ in 0..command.announced.div_ceil(64) {
-        if command.data_in {
-            received.extend(bench.ask().unwrap());
-        } else {
-            assert_eq!(bench.send(&[0xAB; 64]), Answer::Ack);
-        }
-    }
-    assert_eq!(bench.status(), (0, 0), "{:02X?}", command.block);
+    let received = command.pass(&mut bench);
     (received, bench.medium)
 }
 

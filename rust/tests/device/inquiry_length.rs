@@ -5,8 +5,8 @@ use ordinary::device::Answer;
 
 const INQUIRY: &[u8; 36] = b"\x00\x80\x05\x02\x1F\x00\x00\x00COLLECT METER EXPORT    0100";
 const MODE_SENSE: &[u8; 4] = &[0x03, 0x00, 0x00, 0x00];
-/// Request Sense after a range failure, 05/21/00.
-const RANGE_SENSE: &[u8; 18] = &[0x70, 0, 0x05, 0, 0, 0, 0, 0x0A, 0, 0, 0, 0, 0x21, 0, 0, 0, 0, 0];
+/// Request Sense after a range failure, 05/21/00: block 1 is the first outside the unit.
+const RANGE_SENSE: &[u8; 18] = &[0xF0, 0, 0x05, 0, 0, 0, 1, 0x0A, 0, 0, 0, 0, 0x21, 0, 0, 0, 0, 0];
 
 fn inquiry(byte_3: u8, byte_4: u8) -> [u8; 6] {
     [0x12, 0, 0, byte_3, byte_4, 0]

@@ -3,10 +3,16 @@
 mod bench;
 mod bench_sheet;
 mod block_place;
+mod commands;
 mod control_byte;
 mod descriptors;
 mod inquiry_length;
+mod lent;
 mod medium_size;
 mod page_records;
 mod product_pages;
 mod records;
+mod refused_block;
+mod sense_data;
+mod sense_drop;
+mod sense_records;

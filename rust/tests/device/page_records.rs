@@ -1,7 +1,8 @@
 //! Records in stage 10 (document 02, A2): which page codes they may have, and which bytes of a page.
 
 use crate::bench::Bench;
-use ordinary::device::{Answer, Device, Refusal, MAX_NUMBER};
+use crate::lent::{ask, refused};
+use ordinary::device::{Answer, Device, MAX_NUMBER};
 use ordinary::record::Record;
 
 const STAGE: u8 = 10;
@@ -16,32 +17,6 @@ const PAGES: [(u32, &[u8]); 3] = [
 fn sending(value: u32, place: u32, left: u32) -> Record {
     let ready = Bench::new(1).device.to_record();
     Record { number: 1234, stage: STAGE, value, place, left, residue: 64, announced: 64, ..ready }
-}
-
-/// Whether the four events answer 10, each on a device of its own: all do or none does. A record that does not decode is
-/// number 10 too.
-fn refused(record: &Record) -> bool {
-    let Some(device) = Device::from_record(record) else { return true };
-    let each = || device.clone();
-    let mut medium = [0; 512];
-    let answers = [
-        each().bus_reset(),
-        each().control(&[0x80, 0x08, 0, 0, 0, 0, 1, 0], &mut [0; 64]),
-        each().bulk_out(&mut medium, &[0; 31]),
-        each().bulk_in(&medium, &mut [0; 64]),
-    ];
-    let refusals = answers.iter().filter(|answer| **answer == Answer::Refused(Refusal::Record)).count();
-    assert!([0, 4].contains(&refusals), "{answers:?}");
-    refusals == 4
-}
-
-/// The bytes that an ask gives, and the record that it leaves.
-fn ask(record: &Record) -> (Vec<u8>, Record) {
-    let mut device = Device::from_record(record).unwrap();
-    let mut buffer = [0xEE; 64];
-    let Answer::Data(count) = device.bulk_in(&[0; 512], &mut buffer) else { panic!("{record:?}") };
-    assert!(buffer[count as usize..].iter().all(|byte| *byte == 0xEE));
-    (buffer[..count as usize].to_vec(), device.to_record())
 }
 
 #[test]

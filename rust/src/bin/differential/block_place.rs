@@ -10,7 +10,8 @@ use ordinary::record::{stage, Record};
 use ordinary::scsi::{self, code, Sense};
 use ordinary::wrapper::Cbw;
 
-const OPERATIONS: [(u8, &str); 3] = [(code::READ, "Read"), (code::WRITE, "Write"), (code::VERIFY, "Verify")];
+pub const OPERATIONS: [(u8, &str); 3] =
+    [(code::READ, "Read"), (code::WRITE, "Write"), (code::VERIFY, "Verify")];
 const READ: usize = 0;
 const WRITE: usize = 1;
 /// In a transfer of that many blocks the bytes still due need more than 24 bits.
@@ -47,14 +48,13 @@ impl BlockPlaces {
 
     fn note_wrapper(&mut self, blocks: u32, block: &[u8; 16]) {
         let Some(operation) = OPERATIONS.iter().position(|(code, _)| *code == block[0]) else { return };
-        let address = u32::from_be_bytes([block[2], block[3], block[4], block[5]]);
-        let count = u16::from_be_bytes([block[7], block[8]]);
+        let (address, count) = range(block);
         let end = u64::from(address) + u64::from(count);
         match scsi::decide(block, Sense::NONE, blocks) {
             Ok(_) if block[0] == code::VERIFY && count > 0 => {
                 self.note_served(operation, blocks, end as u32 - 1, count.into());
             }
-            Err(Sense::OUT_OF_RANGE) if blocks == LIMIT && count > 0 => {
+            Err(sense) if sense.is_out_of_range() && blocks == LIMIT && count > 0 => {
                 let cut = u64::from(address % LIMIT) + u64::from(count);
                 let failed = &mut self.failed[operation];
                 failed[0] += u64::from(end == u64::from(blocks) + 1);
@@ -91,6 +91,12 @@ impl BlockPlaces {
     pub fn missing(&self) -> Vec<String> {
         self.tables().iter().flat_map(Table::missing).collect()
     }
+}
+
+/// Block address and count.
+pub fn range(block: &[u8; 16]) -> (u32, u16) {
+    let address = u32::from_be_bytes([block[2], block[3], block[4], block[5]]);
+    (address, u16::from_be_bytes([block[7], block[8]]))
 }
 
 /// Whether a packet of data completes the part block.

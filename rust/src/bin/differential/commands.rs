@@ -4,6 +4,7 @@ use crate::inquiry;
 use crate::own::{LIMIT, SMALL};
 use crate::random::Random;
 use ordinary::device::BLOCK;
+use ordinary::record::Record;
 use ordinary::scsi::{self, code, Data, Sense, REFUSED_CONTROL_BITS};
 use ordinary::wrapper::{CBW_SIGNATURE, CBW_SIZE};
 
@@ -31,10 +32,11 @@ const MEDIUM_CODES: [u8; 4] = [code::READ_CAPACITY, code::READ, code::WRITE, cod
 
 /// A packet that is mostly an accepted wrapper. What it announces is what its command would move without the refused
 /// bits of the control byte: a host that sets them expects that they are obeyed.
-pub fn wrapper(random: &mut Random, blocks: u32, marked: &[u32]) -> Vec<u8> {
+pub fn wrapper(random: &mut Random, record: &Record, marked: &[u32]) -> Vec<u8> {
     // A record that does not fit may tell of any number of blocks.
-    let blocks = blocks.min(LIMIT);
-    let mut block = command(random, blocks, marked);
+    let blocks = record.blocks.min(LIMIT);
+    let operation = operation(random, record, marked);
+    let mut block = command(random, operation, blocks, marked);
     let (announced, data_in) = announce(random, &block, blocks);
     if random.one_in(8) {
         refuse_control(random, &mut block);
@@ -57,17 +59,23 @@ pub fn wrapper(random: &mut Random, blocks: u32, marked: &[u32]) -> Vec<u8> {
     packet
 }
 
+/// An operation code, now and then any. A host that has a failure often asks for its sense.
+fn operation(random: &mut Random, record: &Record, marked: &[u32]) -> u8 {
+    match random.below(20) {
+        0 => random.number() as u8,
+        1..=5 if !record.sense().is_zero() => code::REQUEST_SENSE,
+        6..=15 if !marked.is_empty() => random.pick(&MEDIUM_CODES),
+        _ => random.pick(&CODES),
+    }
+}
+
 /// A command block, mostly one that passes; bits and bytes that the device has to ignore are often set.
-fn command(random: &mut Random, blocks: u32, marked: &[u32]) -> [u8; 16] {
+fn command(random: &mut Random, operation: u8, blocks: u32, marked: &[u32]) -> [u8; 16] {
     let mut block = [0; 16];
     if random.one_in(3) {
         random.fill(&mut block);
     }
-    block[0] = match random.below(20) {
-        0 => random.number() as u8,
-        1..=10 if !marked.is_empty() => random.pick(&MEDIUM_CODES),
-        _ => random.pick(&CODES),
-    };
+    block[0] = operation;
     ignored(random, &mut block);
     match block[0] {
         code::READ | code::WRITE => block[1] &= 0x1F,
@@ -81,7 +89,7 @@ fn command(random: &mut Random, blocks: u32, marked: &[u32]) -> [u8; 16] {
         code::READ | code::WRITE | code::VERIFY => place(random, &mut block, blocks, marked),
         code::REQUEST_SENSE | code::MODE_SENSE => {
             block[3] = if random.one_in(2) { random.number() as u8 } else { block[3] };
-            block[4] = random.pick(&[0, 1, 3, 4, 5, 18, 36, 64, 192, 255, block[4]]);
+            block[4] = random.pick(&[0, 1, 3, 4, 5, 6, 7, 17, 18, 19, 36, 64, 192, 255, block[4]]);
         }
         _ => {}
     }
@@ -116,13 +124,13 @@ fn refuse_control(random: &mut Random, block: &mut [u8; 16]) {
 fn place(random: &mut Random, block: &mut [u8; 16], blocks: u32, marked: &[u32]) {
     let count = count(random, block[0], blocks);
     let last = blocks.saturating_sub(count.into());
-    let address = match random.below(12) {
+    let address = match random.below(13) {
         0 => random.number() as u32,
-        1 => u32::MAX.wrapping_sub(random.below(u64::from(count) + 2) as u32),
-        2 => blocks,
-        3 => last + 1,
-        4 | 5 => last,
-        6..=10 if !marked.is_empty() => random.pick(marked).min(last),
+        1 | 2 => u32::MAX.wrapping_sub(random.below(u64::from(count) + 2) as u32),
+        3 => random.pick(&[blocks, blocks, blocks + 1]),
+        4 => last + 1,
+        5 | 6 => last,
+        7..=11 if !marked.is_empty() => random.pick(marked).min(last),
         _ => random.below(u64::from(last) + 1) as u32,
     };
     block[2..6].copy_from_slice(&address.to_be_bytes());

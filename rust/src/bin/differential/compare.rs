@@ -35,7 +35,7 @@ pub fn show(record: &Record) -> String {
     format!("{}; {held} bytes of the part block not 0", text.join(", "))
 }
 
-fn fields(record: &Record) -> [(&'static str, u64); 15] {
+fn fields(record: &Record) -> [(&'static str, u64); 17] {
     let sense = u32::from_be_bytes([0, record.sense_key, record.sense_asc, record.sense_ascq]);
     [
         ("number", record.number),
@@ -46,6 +46,7 @@ fn fields(record: &Record) -> [(&'static str, u64); 15] {
         ("place", record.place.into()),
         ("left", record.left.into()),
         ("value", record.value.into()),
+        ("extra", record.extra.into()),
         ("tag", record.tag.into()),
         ("announced", record.announced.into()),
         ("blocks", record.blocks.into()),
@@ -53,5 +54,6 @@ fn fields(record: &Record) -> [(&'static str, u64); 15] {
         ("flags", record.flags.into()),
         ("address", record.address.into()),
         ("sense", sense.into()),
+        ("sense information", record.sense_information.into()),
     ]
 }

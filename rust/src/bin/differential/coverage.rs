@@ -8,9 +8,12 @@ use crate::medium_size::MediumSizes;
 use crate::page_field::PageFields;
 use crate::pair::Played;
 use crate::product_page::ProductPages;
+use crate::refused_block::RefusedBlocks;
+use crate::sense_drop::SenseDrops;
+use crate::sense_history::SenseHistory;
 use ordinary::cases::Case;
 use ordinary::record::{stage, Record};
-use ordinary::scsi::{self, code, Data, Sense};
+use ordinary::scsi::{self, code, Data};
 use ordinary::wrapper::Cbw;
 
 const NUMBERS: [usize; 11] = [0, 1, 2, 3, 4, 10, 11, 12, 13, 14, 15];
@@ -32,7 +35,7 @@ const STATUSES: [&str; 3] = ["passed", "failed", "phase error"];
 /// The verdicts at the wrapper, as places in `STATUSES`.
 pub const PASSED: usize = 0;
 pub const FAILED: usize = 1;
-const PHASE_ERROR: usize = 2;
+pub const PHASE_ERROR: usize = 2;
 
 #[derive(Default)]
 pub struct Coverage {
@@ -45,6 +48,9 @@ pub struct Coverage {
     product_pages: ProductPages,
     medium_sizes: MediumSizes,
     block_places: BlockPlaces,
+    refused_blocks: RefusedBlocks,
+    sense_drops: SenseDrops,
+    sense_history: SenseHistory,
     cases: [u64; 14],
     statuses: [u64; 3],
 }
@@ -56,6 +62,8 @@ impl Coverage {
         self.answers[event.kind()][number] += 1;
         self.medium_sizes.note(before, event, played);
         self.block_places.note(before, event, played);
+        self.sense_drops.note(before, event, played);
+        self.sense_history.note(before, event, played);
         match event {
             Event::BulkOut { packet, .. } if number == 1 && before.stage == stage::READY => {
                 self.note_wrapper(before, packet);
@@ -76,6 +84,7 @@ impl Coverage {
         let known = COMMANDS.iter().position(|(code, _)| *code == cbw.block[0]);
         self.commands[known.unwrap_or(COMMANDS.len())][verdict] += 1;
         self.cases[case as usize] += 1;
+        self.refused_blocks.note(before, cbw.block, verdict);
         if cbw.block[0] == code::INQUIRY {
             self.page_fields.note(cbw.block, verdict);
             self.product_pages.note(cbw.block, case, verdict);
@@ -118,6 +127,9 @@ impl Coverage {
         self.product_pages.print();
         self.medium_sizes.print();
         self.block_places.print();
+        self.refused_blocks.print();
+        self.sense_drops.print();
+        self.sense_history.print();
         println!("\nthe thirteen meetings of host and device");
         for case in Case::ALL {
             println!("  {:>2} {:<18}{:>9}", case as usize, format!("{case:?}"), self.cases[case as usize]);
@@ -153,14 +165,16 @@ impl Coverage {
         missing.extend(self.product_pages.missing());
         missing.extend(self.medium_sizes.missing());
         missing.extend(self.block_places.missing());
+        missing.extend(self.refused_blocks.missing());
+        missing.extend(self.sense_drops.missing());
+        missing.extend(self.sense_history.missing());
         missing
     }
 }
 
 /// A wrapper's meeting on a device in the state of `before`, and its verdict.
-fn verdict(before: &Record, cbw: &Cbw) -> (Case, usize) {
-    let found = Sense::new(before.sense_key, before.sense_asc, before.sense_ascq);
-    let outcome = scsi::decide(cbw.block, found, before.blocks);
+pub fn verdict(before: &Record, cbw: &Cbw) -> (Case, usize) {
+    let outcome = scsi::decide(cbw.block, before.sense(), before.blocks);
     let case = Case::of(cbw, &outcome.unwrap_or(Data::None));
     let verdict = match outcome {
         _ if case.is_phase_error() => PHASE_ERROR,

@@ -11,6 +11,7 @@ use crate::pair::Pair;
 use crate::random::Random;
 use crate::record_size::RecordSizes;
 use crate::requests;
+use crate::sense_record::SenseRecords;
 use ordinary::device::BLOCK;
 use ordinary::record::{stage, Record, SIZE};
 use std::mem::offset_of;
@@ -32,6 +33,7 @@ pub struct Damage {
     pub fit: u64,
     pub sizes: RecordSizes,
     pub pages: PageRecords,
+    pub senses: SenseRecords,
 }
 
 impl Damage {
@@ -146,6 +148,7 @@ impl Damage {
         let unfit = played.answer.number == 10;
         self.sizes.note(before, event, &played);
         self.pages.note(before, event, &played);
+        self.senses.note(before, event, &played);
         self.events += 1;
         self.undecoded += u64::from(!decodes);
         self.unfit += u64::from(decodes && unfit);

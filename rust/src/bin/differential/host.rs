@@ -46,7 +46,7 @@ pub fn buffer(random: &mut Random) -> Buffer {
 /// A wrapper where one is due, else data.
 pub fn packet(random: &mut Random, record: &Record, marked: &[u32]) -> Vec<u8> {
     if record.stage != stage::DATA_OUT {
-        return wrapper(random, record.blocks, marked);
+        return wrapper(random, record, marked);
     }
     let length = if random.one_in(60) { random.below(PACKET as u64 + 1) } else { PACKET as u64 };
     random.bytes(length)
@@ -104,7 +104,7 @@ fn odd(random: &mut Random, record: &Record, own: &Own) -> Event {
             control(random, setup)
         }
         10 | 11 => ask(random),
-        12 => send(wrapper(random, record.blocks, &own.marked)),
+        12 => send(wrapper(random, record, &own.marked)),
         13 => send(random.bytes(64)),
         14 => {
             let length = random.below(65);

@@ -17,10 +17,7 @@ pub fn invent(random: &mut Random, own: u32) -> Record {
     record.number = random.pick(&[0, 42, MAX_NUMBER, MAX_NUMBER - 1, MAX_NUMBER]);
     record.address = random.below(0x80) as u8;
     record.flags = flags(random);
-    if random.one_in(2) {
-        let [key, asc, ascq] = [(); 3].map(|()| random.number() as u8);
-        (record.sense_key, record.sense_asc, record.sense_ascq) = (key, asc, ascq);
-    }
+    set_sense(random, &mut record);
     if random.one_in(2) {
         random.fill(&mut record.part);
     }
@@ -30,6 +27,36 @@ pub fn invent(random: &mut Random, own: u32) -> Record {
         set_command(random, &mut record);
     }
     record
+}
+
+/// The unit's sense and its number (document 02, A8): each alone, both or none.
+fn set_sense(random: &mut Random, record: &mut Record) {
+    if random.one_in(2) {
+        [record.sense_key, record.sense_asc, record.sense_ascq] = sense(random);
+    }
+    if random.one_in(2) {
+        record.sense_information = information(random, record.blocks);
+    }
+}
+
+/// Any, or 05/21/00, or one byte off by one from that.
+fn sense(random: &mut Random) -> [u8; 3] {
+    let mut sense = [0x05, 0x21, 0x00];
+    match random.below(4) {
+        0 => random.fill(&mut sense),
+        1 => {}
+        _ => {
+            let byte = &mut sense[random.below(3) as usize];
+            *byte = byte.wrapping_add(random.pick(&[1, 0xFF]));
+        }
+    }
+    sense
+}
+
+/// A sense's number: the unit's end, and any.
+fn information(random: &mut Random, blocks: u32) -> u32 {
+    let any = random.number() as u32;
+    random.pick(&[0, 1, blocks, blocks.saturating_add(1), u32::MAX, any, any])
 }
 
 /// At the limit, over it, or apart from the medium's number by a power of two (document 02, A5).
@@ -83,10 +110,16 @@ fn set_command(random: &mut Random, record: &mut Record) {
         stage::DATA_OUT => record.value = 64 * random.below(9) as u32 + u32::from(random.one_in(12)),
         stage::READ_CAPACITY => record.value = random.pick(&[0, 1, record.blocks, LIMIT, u32::MAX]),
         stage::REQUEST_SENSE => {
-            let sense = random.below(u64::from(SENSE_BOUND)) as u32;
-            record.value = random.pick(&[sense, sense, 0, SENSE_BOUND - 1, SENSE_BOUND]);
+            let [key, asc, ascq] = sense(random);
+            let sense = u32::from_le_bytes([key, asc, ascq, 0]);
+            record.value =
+                random.pick(&[sense, sense, sense, sense, 0, SENSE_BOUND - 1, SENSE_BOUND | sense]);
         }
         _ => {}
+    }
+    // Only a reply's sense has a number.
+    if record.stage == stage::REQUEST_SENSE || random.one_in(12) {
+        record.extra = information(random, record.blocks);
     }
     let scale = if record.stage == stage::DATA_OUT { BLOCK as u32 } else { 1 };
     let due = record.left.wrapping_mul(scale);

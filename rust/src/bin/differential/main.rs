@@ -25,7 +25,11 @@ mod pair;
 mod product_page;
 mod random;
 mod record_size;
+mod refused_block;
 mod requests;
+mod sense_drop;
+mod sense_history;
+mod sense_record;
 mod table;
 mod trial;
 
@@ -120,10 +124,12 @@ impl Run {
         println!("  {:<34}{:>9}", "events on records that fit", damage.fit);
         damage.sizes.print();
         damage.pages.print();
+        damage.senses.print();
         println!("\ntime: {:.1} s", started.elapsed().as_secs_f64());
         let mut missing = self.coverage.missing();
         missing.extend(self.damage.sizes.missing());
         missing.extend(self.damage.pages.missing());
+        missing.extend(self.damage.senses.missing());
         if missing.is_empty() {
             Ok(())
         } else {

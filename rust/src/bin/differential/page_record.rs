@@ -59,7 +59,8 @@ fn ending(record: &Record, value: u32, past: u32) -> Option<Record> {
     meant.then(|| Record { left: record.left - past, ..*record })
 }
 
-fn fits(record: Record) -> bool {
+/// Whether a record is not refused with 10.
+pub fn fits(record: Record) -> bool {
     Device::from_record(&record).is_some_and(|mut device| device.bus_reset() == Answer::Ack)
 }
 

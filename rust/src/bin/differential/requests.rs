@@ -5,6 +5,7 @@ use crate::random::Random;
 pub type Setup = [u8; 8];
 
 pub const SET_CONFIGURATION: Setup = [0x00, 0x09, 1, 0, 0, 0, 0, 0];
+pub const SET_NO_CONFIGURATION: Setup = [0x00, 0x09, 0, 0, 0, 0, 0, 0];
 pub const MASS_STORAGE_RESET: Setup = [0x21, 0xFF, 0, 0, 0, 0, 0, 0];
 pub const CLEAR_IN: Setup = [0x02, 0x01, 0, 0, 0x81, 0, 0, 0];
 pub const CLEAR_OUT: Setup = [0x02, 0x01, 0, 0, 0x02, 0, 0, 0];
@@ -13,7 +14,7 @@ pub const CLEAR_OUT: Setup = [0x02, 0x01, 0, 0, 0x02, 0, 0, 0];
 const KNOWN: [Setup; 16] = [
     [0x00, 0x05, 0x05, 0, 0, 0, 0, 0],
     SET_CONFIGURATION,
-    [0x00, 0x09, 0, 0, 0, 0, 0, 0],
+    SET_NO_CONFIGURATION,
     [0x80, 0x08, 0, 0, 0, 0, 1, 0],
     [0x80, 0x00, 0, 0, 0, 0, 2, 0],
     [0x81, 0x00, 0, 0, 0, 0, 2, 0],

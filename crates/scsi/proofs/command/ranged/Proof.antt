@@ -31,15 +31,23 @@ cast-if2-2 c = search needs
 add-if2 : tie.Need-add-if2
 add-if2 c = search needs
 
+first-outside-requires : tie.Need-first-outside-requires
+first-outside-requires c κs = search needs
+
+out-of-range-requires : tie.Need-out-of-range-requires
+out-of-range-requires c κs = search needs
+
 returns-2 : tie.Need-returns-2
 unfolding rangedOf within if_then_else_
 returns-2 c =
     simp (
-      sym (c .before .before .before .before .byte .ensures),
-      mask 5 7 (c .before .before .before .before .byte .result) (lit≤ tt) ∙ eq-eqb _ _ (c .before .before .before .if1 .left),
-      sym (c .before .before .be32 .ensures),
-      sym (c .before .be16 .ensures),
-      lt-leb _ _ (c .if2 .taken),
+      sym (c .before .before .before .before .before .before .byte .ensures),
+      mask 5 7 (c .before .before .before .before .before .before .byte .result) (lit≤ tt) ∙ eq-eqb _ _ (c .before .before .before .before .before .if1 .left),
+      sym (c .before .before .before .before .be32 .ensures),
+      sym (c .before .before .before .be16 .ensures),
+      lt-leb _ _ (c .before .before .if2 .taken),
+      c .out-of-range .ensures,
+      c .before .first-outside .ensures,
     )
 
 returns-3 : tie.Need-returns-3
@@ -64,5 +72,7 @@ ranged-spec =
     cast-if2
     cast-if2-2
     add-if2
+    first-outside-requires
+    out-of-range-requires
     returns-2
     returns-3)
