@@ -2,15 +2,15 @@
 -- block of zeros, of Inquiry with EVPD set and of blocks outside the unit. Assumes nothing.
 use Prim.Native.Nat.{ℕ, _+_, _≤_, _<_}
 use mathlib.Core.Path.{_≡_, refl, sym, ap, _∙_}
+use mathlib.Core.Bool.{true}
 use mathlib.Core.List.{List, [], _∷_}
 use native.Mathlib.Omega.{arith}
-use lib.Dec.{leb}
 use borrow.Author.Tests.{leb-true, lt-leb}
 use Rattle.wire.specs.Choice.{if_then_else_, _and_, look}
 use Rattle.wire.specs.Bits.{bits, clear}
 use Rattle.wire.specs.Numbers.{big}
 use Rattle.wire.specs.Slices.{byteAt, bytesAt, zeros}
-use Rattle.wire.proofs.Cases.{by-if, if-false, look-all}
+use Rattle.wire.proofs.Cases.{by-if, if-true, if-false, look-all}
 use Rattle.wire.proofs.Lists.{bytes-same}
 use Rattle.scsi.specs.declared.command.Plan.{Plan}
 use Rattle.scsi.specs.declared.command.Plan.the-variants.{Failed, Nothing, Reply, Read, Write}
@@ -147,13 +147,19 @@ first-outside = record {
   named = λ a count blocks some past. (omega arith, omega arith);
 }
 
-refused : (a c : ℕ) (p : Plan) (blocks : ℕ) → blocks < a + c → (if leb (a + c) blocks then p else Failed (outOfRange (firstOutside a blocks))) ≡ Failed (outOfRange (firstOutside a blocks))
-refused a c p blocks h = if-false _ _ _ (lt-leb _ _ h)
+-- a known command whose control byte and fields pass has what its row has
+passed : (code : ℕ) (b : List ℕ) (blocks : ℕ) → byteAt b 0 ≡ code → controlClear b ≡ true → commandOf code .fields b ≡ true → planOf b blocks ≡ commandOf code .has blocks b
+unfolding planOf planBy
+passed code b blocks e c f = if-true _ _ _ c ∙ ap (λ (k : ℕ). planBy (commandOf k) blocks b) e ∙ if-true _ _ _ f
+
+outside : (b : List ℕ) (blocks : ℕ) (p : Plan) → blocks < address b + count b → within blocks b p ≡ Failed (outOfRange (firstOutside (address b) blocks))
+unfolding within
+outside b blocks p h = if-false _ _ _ (lt-leb _ _ h)
 
 pub ranges-refused : RangesRefused
-unfolding planOf controlClear planBy commandOf commands look within bytesAt clear bits if_then_else_ _and_
+unfolding commandOf commands look if_then_else_
 ranges-refused = record {
-  read = λ a b c d group hi lo blocks h. refused _ _ _ blocks h;
-  write = λ a b c d group hi lo blocks h. refused _ _ _ blocks h;
-  verify = λ a b c d group hi lo blocks h. refused _ _ _ blocks h;
+  read = λ b blocks e c f h. passed 0x28 b blocks e c f ∙ outside b blocks _ h;
+  write = λ b blocks e c f h. passed 0x2A b blocks e c f ∙ outside b blocks _ h;
+  verify = λ b blocks e c f h. passed 0x2F b blocks e c f ∙ outside b blocks _ h;
 }

@@ -1,11 +1,11 @@
 -- What is claimed of replies, pages and refused blocks. Proved in proofs/Replies.antt, proofs/Pages.antt and proofs/Plans.antt.
 use Prim.Native.Nat.{ℕ, _+_, _≤_, _<_, _^_}
 use mathlib.Core.Path.{_≡_}
-use mathlib.Core.Bool.{false}
-use mathlib.Core.List.{[], _∷_, _++_}
+use mathlib.Core.Bool.{true, false}
+use mathlib.Core.List.{List, [], _∷_, _++_}
 use lib.ListN.{length}
 use Rattle.wire.specs.Numbers.{big, bigBytes}
-use Rattle.wire.specs.Slices.{zeros}
+use Rattle.wire.specs.Slices.{byteAt, zeros}
 use Rattle.wire.specs.Texts.{ascii, serialText}
 use Rattle.scsi.specs.declared.command.Plan.the-variants.{Failed}
 use Rattle.scsi.specs.declared.page.Page.{Page}
@@ -16,7 +16,7 @@ use Rattle.scsi.specs.declared.reply.Reply.{Reply}
 use Rattle.scsi.specs.declared.sense.Sense.{Sense}
 use Rattle.scsi.specs.Sense.{invalidField, outOfRange, isOutOfRange}
 use Rattle.scsi.specs.Page.{pageCode, pageOf, pageData}
-use Rattle.scsi.specs.Command.{cut, firstOutside, planOf}
+use Rattle.scsi.specs.Command.{cut, address, count, firstOutside, commandOf, controlClear, planOf}
 use Rattle.scsi.specs.Reply.{senseData, replyData, kindOf, replySize}
 
 -- The whole of a reply is as long as its size says, whatever its values and the collector number.
@@ -46,11 +46,11 @@ pub record FirstOutside : Type 0 where
   pub first : (a blocks i : ℕ) → a ≤ i → i < firstOutside a blocks → i < blocks
   pub named : (a count blocks : ℕ) → 0 < count → blocks < a + count → (a ≤ firstOutside a blocks) × (firstOutside a blocks < a + count)
 
--- A command on blocks that do not all lie in the unit, count 0 included, its flags and its control byte clear.
+-- A command that passes its other checks, on blocks that do not all lie in the unit, count 0 included.
 abbrev pub Refuses : ℕ → Type 0
 Refuses code =
-    (a b c d group hi lo blocks : ℕ) → blocks < big (a ∷ b ∷ c ∷ d ∷ []) + big (hi ∷ lo ∷ [])
-    → planOf (code ∷ 0x00 ∷ a ∷ b ∷ c ∷ d ∷ group ∷ hi ∷ lo ∷ 0x00 ∷ []) blocks ≡ Failed (outOfRange (firstOutside (big (a ∷ b ∷ c ∷ d ∷ [])) blocks))
+    (b : List ℕ) (blocks : ℕ) → byteAt b 0 ≡ code → controlClear b ≡ true → commandOf code .fields b ≡ true → blocks < address b + count b
+    → planOf b blocks ≡ Failed (outOfRange (firstOutside (address b) blocks))
 
 pub record RangesRefused : Type 0 where
   pub read : Refuses 0x28
