@@ -18,5 +18,5 @@ pub mod StepLaws
 pub mod Beside
 pub mod Compute
 pub mod Sheet
-pub mod Refused
+pub mod RefusedBlock
 pub mod Witness

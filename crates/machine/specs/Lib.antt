@@ -15,5 +15,5 @@ pub mod Halts
 pub mod Largest
 pub mod Sent
 pub mod Sheet
-pub mod Refused
+pub mod RefusedBlock
 pub mod Witness

@@ -17,7 +17,7 @@ use Rattle.machine.specs.Record.{moved}
 use Rattle.machine.specs.Begin.{hostOf, hasOf, senseOf, sensed, begunBy, begun}
 use Rattle.machine.specs.Machine.{Out}
 use Rattle.machine.specs.Sheet.{cbw, testUnitReady, requestSense, onBlocks, configure, sent, commandIn, command, hands, status, senses, outsideData, events, due, told, outcome, wanted, Hold}
-use Rattle.machine.specs.Refused.{SenseLeft, carries, BlocksCarried, refused, paper, noData, codeData, examples, ExamplesHold}
+use Rattle.machine.specs.RefusedBlock.{SenseLeft, carries, BlocksCarried, refused, paper, noData, codeData, examples, ExamplesHold}
 use Rattle.machine.proofs.Beside.{taken}
 use Rattle.machine.proofs.Compute.{computes}
 use Rattle.machine.proofs.EverySense.{StageSense, Makes, lived-senses}

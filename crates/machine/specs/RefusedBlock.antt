@@ -1,4 +1,4 @@
--- Which block was refused (document 02, A8). Proved in proofs/Refused.antt.
+-- Which block was refused (document 02, A8). Proved in proofs/RefusedBlock.antt.
 use Prim.Native.Nat.{ℕ}
 use mathlib.Core.Path.{_≡_}
 use mathlib.Core.Bool.{Bool, true}
