@@ -193,8 +193,8 @@ fn any_in(given: Given, flat: Flat, medium: &[u8], buffer: &mut [u8]) -> Turn
 fn later_in(given: Given, flat: Flat, medium: &[u8], buffer: &mut [u8]) -> Turn
     ensures { λ r. ⌜ ((p : List ℕ) → left (r .told) (rec given (r .flat) p) (now (medium .entry)) (now (buffer .exit)) ≡ onRecord (rec given flat p) (now (medium .entry)) (bulkIn (now (buffer .entry)))) ⌝ }
 {
-    // The long way has two calls, each with a result of its own, so that the compiler does not put it in line: its numbers
-    // take no registers of the quick ways.
+    // The long way has two calls, each with a result of its own, so that the compiler does not inline it: its numbers take
+    // no registers of the quick ways.
     if !is_free(given, flat, medium.len()) {
         let turn = any_in(given, flat, medium, buffer);
         return turn;
