@@ -2,23 +2,24 @@
 use Prim.Native.Nat.{ℕ, _≤_}
 use mathlib.Core.Path.{_≡_, refl, subst}
 use mathlib.Core.Bool.{true}
-use mathlib.Core.List.{List}
+use mathlib.Core.List.{List, [], _∷_}
 use native.Mathlib.Omega.{arith}
 use lib.ListN.{drop}
-use borrow.Author.Tests.{le-leb, leb-true}
+use borrow.Author.Tests.{le-leb, leb-true, ltb-true}
 use Rattle.wire.proofs.Cases.{both, by-if, if-true}
-use Rattle.scsi.specs.Command.{planOf}
 use Rattle.scsi.specs.declared.command.Plan.{Plan}
 use Rattle.scsi.specs.declared.command.Plan.the-variants.{Failed, Nothing, Reply, Read, Write}
 use Rattle.scsi.proofs.Plans.{PlanFits, plan-fits}
+use Rattle.bot.specs.Cbw.{headerOf}
 use Rattle.bot.specs.declared.cbw.Header.{Header}
+use Rattle.machine.specs.declared.record.LogicalUnit.{LogicalUnit}
 use Rattle.machine.specs.declared.record.State.{State}
 use Rattle.machine.specs.declared.wrapper.Wrapper.{Wrapper}
 use Rattle.machine.specs.declared.wrapper.Wrapper.the-variants.{Broken, Good}
-use Rattle.machine.specs.Begin.{begun}
-use Rattle.machine.specs.Fits.{mostBlocks, sizeFits}
-use Rattle.machine.specs.Wrapper.{accepted, wrapperOf}
-use Rattle.begin.specs.InRange.{isInRange, begunInRange}
+use Rattle.machine.specs.Begin.{begun, begunUnit}
+use Rattle.machine.specs.Units.{mostBlocks, sizeFits, unitAt}
+use Rattle.machine.specs.Wrapper.{accepted, planFor, wrapperOf}
+use Rattle.begin.specs.InRange.{isInRange, pair, begunInRange}
 
 in-range : (n : ℕ) (p : Plan) → n ≤ mostBlocks → PlanFits n p → isInRange p ≡ true
 unfolding isInRange
@@ -30,13 +31,18 @@ in-range n (Write block count) h f = refl
 
 abbrev InRangeWrapper : Wrapper → Type 0
 InRangeWrapper Broken = Unit {0}
-InRangeWrapper (Good h p) = isInRange p ≡ true
+InRangeWrapper (Good h p) = (h .lun ≡ 0) × (isInRange p ≡ true)
 
-wrapper-in-range : (n : ℕ) (p : List ℕ) → sizeFits n ≡ true → InRangeWrapper (wrapperOf n p)
-unfolding sizeFits wrapperOf
-wrapper-in-range n p s = by-if InRangeWrapper (accepted p) _ _ (λ _. in-range n (planOf (drop 15 p) n) (leb-true _ _ (both _ _ s .1)) (plan-fits (drop 15 p) n)) (λ _. tt)
+wrapper-in-range : (u : LogicalUnit) (p : List ℕ) → sizeFits (u .blocks) ≡ true → InRangeWrapper (wrapperOf (u ∷ []) p)
+unfolding sizeFits wrapperOf accepted
+wrapper-in-range u p s = by-if InRangeWrapper (accepted 1 p) _ _ good (λ _. tt)
+  where
+    good : accepted 1 p ≡ true → InRangeWrapper (Good (headerOf p) (planFor (unitAt (u ∷ []) (headerOf p .lun)) (drop 15 p)))
+    good a =
+        let z : headerOf p .lun ≡ 0 = omega (arith, ltb-true (headerOf p .lun) 1 (both _ _ (both _ _ a .1) .0)) in
+        (z, rw z (in-range (u .blocks) (planFor u (drop 15 p)) (leb-true _ _ (both _ _ s .1)) (plan-fits (drop 15 p) (u .blocks))))
 
--- in a unit of a size that is served an accepted wrapper begins its command
-pub wrapper-begins : (n : ℕ) (p : List ℕ) (h : Header) (plan : Plan) (s : State) → sizeFits n ≡ true → wrapperOf n p ≡ Good h plan → begunInRange h plan s ≡ begun h plan s
+-- in a unit of a size that is served an accepted wrapper, which names unit 0, begins its command
+pub wrapper-begins : (u : LogicalUnit) (p : List ℕ) (h : Header) (plan : Plan) (s : State) → sizeFits (u .blocks) ≡ true → wrapperOf (u ∷ []) p ≡ Good h plan → (h .lun ≡ 0) × (begunInRange h plan s u ≡ pair (begun h plan s u) (begunUnit h plan u))
 unfolding begunInRange
-wrapper-begins n p h plan s f e = if-true _ _ _ (subst InRangeWrapper e (wrapper-in-range n p f))
+wrapper-begins u p h plan s f e = let r = subst InRangeWrapper e (wrapper-in-range u p f) in (r .0, if-true _ _ _ (r .1))

@@ -21,6 +21,7 @@ use scsi::reply::Reply;
 use scsi::reply::ReplyKind;
 use scsi::sense::Sense;
 use state::states::moved;
+use state::states::with_sense;
 
 fn host_of(header: Header) -> Transfer
     ensures { λ r. ⌜ r ≡ hostOf header ⌝ }
@@ -187,14 +188,19 @@ fn is_in_range(plan: Plan) -> bool
     }
 }
 
-// The state once the command is accepted. No unit has a plan that is not in range; one leaves the state as it was.
-pub fn begin(header: Header, plan: Plan, state: State) -> State
-    ensures { λ r. ⌜ r ≡ begunInRange header plan state ⌝ }
+// What the command begins with.
+pub struct Begun {
+    pub state: State,
+    pub unit: LogicalUnit,
+}
+
+// State and unit once the command is accepted. No unit has a plan that is not in range; one leaves both as they were.
+pub fn begin(header: Header, plan: Plan, state: State, unit: LogicalUnit) -> Begun
+    ensures { λ r. ⌜ r ≡ begunInRange header plan state unit ⌝ }
 {
     if !is_in_range(plan) {
-        return state;
+        return Begun { state, unit };
     }
-    let unit = state.unit;
     let link = state.link;
     let found = unit.sense;
     let case = case_of(host_of(header), has_of(plan));
@@ -207,9 +213,13 @@ pub fn begin(header: Header, plan: Plan, state: State) -> State
     let stage = staged(ending, moves, plan, unit);
     let task = Task {
         stage,
+        lun: header.lun,
         tag: header.tag,
         announced: header.announced,
         residue: header.announced,
     };
-    moved(state, sense, haltin, haltout, task)
+    Begun {
+        state: moved(state, haltin, haltout, task),
+        unit: with_sense(unit, sense),
+    }
 }

@@ -1,78 +1,140 @@
--- What a task that fits tells of its numbers. Assumes nothing.
-use Prim.Native.Nat.{ℕ, _+_, _*_, _-_, _%_, _≤_, _<_, min}
-use mathlib.Core.Path.{_≡_, sym, ap, _∙_}
-use mathlib.Core.Bool.{true, false}
-use mathlib.Core.List.{List}
+-- What a sound state tells of its numbers and of the packet that an ask comes to; its unit has the whole medium. Assumes nothing.
+use Prim.Native.Nat.{ℕ, _+_, _*_, _%_, _≤_, _<_}
+use mathlib.Core.Path.{_≡_, refl, sym, subst, ap, _∙_}
+use mathlib.Core.Bool.{Bool, true}
+use mathlib.Core.List.{List, [], _∷_}
 use native.Mathlib.Omega.{arith}
-use lib.ListN.{length, take, drop, length-take, length-drop}
-use borrow.Author.Tests.{leb-true, ltb-true, eqb-true, ne-eqb}
-use Rattle.wire.specs.Choice.{if_then_else_}
+use lib.Dec.{eqb}
+use lib.ListN.{length, take, drop, length-drop}
+use lib.Seq.{take-all, length-take-le}
+use borrow.Author.Tests.{leb-true, ltb-true, eqb-true}
+use Rattle.wire.specs.Choice.{_and_}
 use Rattle.wire.specs.Slices.{placed}
-use Rattle.wire.proofs.Cases.{both, if-false}
-use Rattle.scsi.specs.Reply.{replyData}
+use Rattle.wire.proofs.Cases.{both, by-if}
+use Rattle.wire.proofs.Lists.{placed-whole}
+use Rattle.scsi.specs.Reply.{kindOf, replySize}
 use Rattle.scsi.specs.declared.reply.Reply as replies
-use Rattle.scsi.proofs.Replies.{sizes}
+use Rattle.scsi.proofs.Replies.{sizes, reply-short}
+use Rattle.usb.specs.declared.descriptor.Identity.{Identity}
 use Rattle.machine.specs.declared.answer.Answer.the-variants.{Data}
+use Rattle.machine.specs.declared.record.LogicalUnit.{LogicalUnit}
 use Rattle.machine.specs.declared.record.Stage.{Stage}
-use Rattle.machine.specs.declared.record.Stage.the-variants.{DataOut, DataIn, ReplyIn}
+use Rattle.machine.specs.declared.record.Stage.the-variants.{Ready, DataOut, DataIn, ReplyIn, StatusDue}
 use Rattle.machine.specs.declared.record.State.{State}
 use Rattle.machine.specs.declared.record.Device.{Device}
-use Rattle.machine.specs.Fits.{mostBlocks, sizeFits, taskFits, outFits, inFits}
-use Rattle.machine.specs.Outcome.{reacts}
-use Rattle.machine.specs.Bulk.{handedOut, onAsk, inStage, packetIn}
-use Rattle.bulk.specs.Parts.{Sound, Gathering}
+use Rattle.machine.specs.declared.ask.Source.{Source}
+use Rattle.machine.specs.declared.ask.Source.the-variants as source
+use Rattle.machine.specs.declared.ask.Asked.{Asked}
+use Rattle.machine.specs.declared.ask.Asked.the-variants.{Packet}
+use Rattle.machine.specs.Units.{blockSize, mostBlocks, sizeFits, unitAt, inTable, partOf, withPart}
+use Rattle.machine.specs.Fits.{lunFits, stageFits, taskFits, outFits, inFits}
+use Rattle.machine.specs.Record.{device}
+use Rattle.machine.specs.World.{World, world, inState, out, sends, UnitOut, inUnit}
+use Rattle.machine.specs.Bulk.{nextPacket, askStage, ask, bytesOf, deliver, packetIn}
+use Rattle.bulk.specs.Parts.{Sound, Gathering, Sending, Askable, Within}
 
-pub small : (s : State) (m : List ℕ) → Sound s m → s .unit .blocks ≤ mostBlocks
-unfolding sizeFits
-small s m w = leb-true _ _ (both _ _ (w .size) .1)
+-- The part of the one unit is the whole medium.
+part-is : (u : LogicalUnit) (m : List ℕ) → u .first ≡ 0 → length m ≡ 512 * u .blocks → partOf u m ≡ m
+unfolding partOf
+part-is u m e l = ap (λ (k : ℕ). take (blockSize * u .blocks) (drop (blockSize * k) m)) e ∙ take-all (blockSize * u .blocks) m (omega arith)
 
-at-stage : (s : State) (m : List ℕ) (g : Stage) → Sound s m → s .link .task .stage ≡ g → taskFits (s .unit .blocks) g (s .link .task .announced) (s .link .task .residue) ≡ true
-at-stage s m g w e = sym (ap (λ (h : Stage). taskFits (s .unit .blocks) h (s .link .task .announced) (s .link .task .residue)) e) ∙ w .running
+with-part : (u : LogicalUnit) (m s : List ℕ) → u .first ≡ 0 → length s ≡ length m → withPart u m s ≡ s
+unfolding withPart
+with-part u m s e l = ap (λ (k : ℕ). placed m (blockSize * k) s) e ∙ placed-whole m s l
 
-pub gathering : (s : State) (m : List ℕ) (block left held : ℕ) → Sound s m → s .link .task .stage ≡ DataOut block left held → (left ≡ 0 → ⊥) → Gathering s block left held m
-unfolding taskFits outFits inFits
-gathering s m block left held w e n =
-    let f = both _ _ (at-stage s m (DataOut block left held) w e) in
-    let g = both _ _ (f .1) in
-    let h = both _ _ (g .1) in
-    let j = both _ _ (h .1) in
-    let k = small s m w in
-    let l = w .whole in
-    let a : block + left ≤ s .unit .blocks = leb-true _ _ (f .0) in
-    let b : held % 64 ≡ 0 = eqb-true _ _ (g .0) in
-    let c : held < 512 = ltb-true _ _ (h .0) in
-    let d : 512 * left ≤ s .link .task .residue = leb-true _ _ (j .0) in
-    record { within = omega arith; place = omega arith; room = omega arith; due = omega arith }
+-- What is left within the unit is all that is left.
+pub in-unit : (d : Device) (u : LogicalUnit) (m : List ℕ) (n : ℕ) (f : Device → LogicalUnit → List ℕ → UnitOut) (r : UnitOut) → n ≡ 0 → u .first ≡ 0 → length m ≡ 512 * u .blocks → length (r .medium) ≡ length m
+    → r ≡ f d u m → out (r .answer) (world (r .dev) (r .unit ∷ []) (r .medium)) [] ≡ inUnit (world d (u ∷ []) m) n f
+unfolding inUnit
+in-unit d u m n f r z e w l h =
+    ap (λ (x : List ℕ). out (r .answer) (world (r .dev) (r .unit ∷ []) x) []) (sym (with-part u m (r .medium) e l))
+    ∙ ap (λ (x : UnitOut). out (x .answer) (world (x .dev) (x .unit ∷ []) (withPart u m (x .medium))) []) (h ∙ ap (f d u) (sym (part-is u m e w)))
+    ∙ rw z
 
--- Bytes that are due lie in their source, and in the residue.
-pub record Sending (place left size residue : ℕ) : Type 0 where
-  pub within : place + left ≤ size
-  pub due : left ≤ residue
+module _ (s : State) (u : LogicalUnit) (m : List ℕ) (w : Sound s u m) where
+  small : u .blocks ≤ mostBlocks
+  unfolding sizeFits
+  small = leb-true _ _ (both _ _ (w .size) .1)
 
-pub sending : (s : State) (m : List ℕ) (place left : ℕ) → Sound s m → s .link .task .stage ≡ DataIn place left → Sending place left (length m) (s .link .task .residue)
-unfolding taskFits outFits inFits
-sending s m place left w e =
-    let f = both _ _ (at-stage s m (DataIn place left) w e) in
-    let l = w .whole in
-    let a : place + left ≤ 512 * s .unit .blocks = leb-true _ _ (f .0) in
-    record { within = omega arith; due = leb-true _ _ (both _ _ (f .1) .0) }
+  at-stage : (g : Stage) → s .link .task .stage ≡ g → lunFits g (s .link .task .lun) (u ∷ []) and stageFits (unitAt (u ∷ []) (s .link .task .lun) .blocks) g (s .link .task .announced) (s .link .task .residue) ≡ true
+  unfolding taskFits
+  at-stage g e = subst (λ (h : Stage). lunFits h (s .link .task .lun) (u ∷ []) and stageFits (unitAt (u ∷ []) (s .link .task .lun) .blocks) h (s .link .task .announced) (s .link .task .residue) ≡ true) e (w .running)
 
-pub replying : (s : State) (m : List ℕ) (n : ℕ) (r : replies.Reply) (place left : ℕ) → Sound s m → s .link .task .stage ≡ ReplyIn r place left → Sending place left (length (replyData n r)) (s .link .task .residue)
-unfolding taskFits outFits inFits
-replying s m n r place left w e =
-    let f = both _ _ (at-stage s m (ReplyIn r place left) w e) in
-    record { within = rw (sizes n r) (leb-true _ _ (f .0)); due = leb-true _ _ (both _ _ (f .1) .0) }
+  -- blocks are moved only to and from unit 0
+  own : (n : ℕ) (f : ℕ → Bool) → inTable n (u ∷ []) and f (unitAt (u ∷ []) n .blocks) ≡ true → (n ≡ 0) × (f (u .blocks) ≡ true)
+  own n f e =
+      let b = both _ _ e in
+      let l : n < 1 = ltb-true _ _ (b .0) in
+      let z : n ≡ 0 = omega arith in
+      (z, subst (λ (k : ℕ). f (unitAt (u ∷ []) k .blocks) ≡ true) z (b .1))
 
--- an ask where a reply is due
-pub at-reply : (d : Device) (m b x : List ℕ) (r : replies.Reply) (place left rest : ℕ) → d .state .link .haltin ≡ false → d .state .link .task .stage ≡ ReplyIn r place left
-    → x ≡ replyData (d .identity .number) r → rest ≡ left - 64 → onAsk d x place left (ReplyIn r (place + 64) rest) b ≡ packetIn d m b
-unfolding packetIn inStage if_then_else_
-at-reply d m b x r place left rest h e f g = rw f (rw g (simp (h, e)))
+  pub gathering : (block left held : ℕ) → s .link .task .stage ≡ DataOut block left held → (left ≡ 0 → ⊥) → (s .link .task .lun ≡ 0) × Gathering s block left held m
+  unfolding lunFits stageFits outFits
+  gathering block left held e n =
+      let o = own _ (λ (b : ℕ). outFits b block left held (s .link .task .announced) (s .link .task .residue)) (at-stage (DataOut block left held) e) in
+      let f = both _ _ (o .1) in
+      let g = both _ _ (f .1) in
+      let h = both _ _ (g .1) in
+      let j = both _ _ (h .1) in
+      let k = small in
+      let l = w .whole in
+      let a : block + left ≤ u .blocks = leb-true _ _ (f .0) in
+      let b : held % 64 ≡ 0 = eqb-true _ _ (g .0) in
+      let c : held < 512 = ltb-true _ _ (h .0) in
+      let d : 512 * left ≤ s .link .task .residue = leb-true _ _ (j .0) in
+      (o .0, record { within = omega arith; place = omega arith; room = omega arith; due = omega arith })
 
--- an ask where something is left
-pub asked : (d : Device) (s : List ℕ) (place left n : ℕ) (more : Stage) (b : List ℕ) → (left ≡ 0 → ⊥) → place + left ≤ length s → min 64 left ≡ n → n ≤ left
-    → onAsk d s place left more b ≡ reacts (Data n) (handedOut d n left more) (placed b 0 (take n (drop place s)))
-unfolding onAsk
-asked d s place left n more b z l e h =
-    if-false _ _ _ (ne-eqb left 0 z)
-    ∙ rw e (ap (λ (k : ℕ). reacts (Data k) (handedOut d n left more) (placed b 0 (take n (drop place s)))) (simp (length-take, length-drop) (omega arith)))
+  sent : (size place left : ℕ) → inFits size place left (s .link .task .announced) (s .link .task .residue) ≡ true → Sending place left size (s .link .task .residue)
+  unfolding inFits
+  sent size place left e = let f = both _ _ e in record { within = leb-true _ _ (f .0); due = leb-true _ _ (both _ _ (f .1) .0) }
+
+  sending : (place left : ℕ) → s .link .task .stage ≡ DataIn place left → (s .link .task .lun ≡ 0) × Sending place left (512 * u .blocks) (s .link .task .residue)
+  unfolding lunFits stageFits
+  sending place left e =
+      let o = own _ (λ (b : ℕ). inFits (512 * b) place left (s .link .task .announced) (s .link .task .residue)) (at-stage (DataIn place left) e) in
+      (o .0, sent _ place left (o .1))
+
+  replying : (r : replies.Reply) (place left : ℕ) → s .link .task .stage ≡ ReplyIn r place left → Sending place left (replySize (kindOf r)) (s .link .task .residue)
+  unfolding lunFits stageFits
+  replying r place left e = sent _ place left (both _ _ (at-stage (ReplyIn r place left) e) .1)
+
+  pub askable : Askable s
+  askable =
+      record {
+        medium = λ place left e. let t = sending place left e .1 in let a = t .within in let k = small in record { within = omega arith; due = t .due };
+        reply = λ r place left e. let t = replying r place left e in let a = t .within in let z = sizes 0 r in let k = reply-short 0 r in record { within = omega arith; due = t .due };
+      }
+
+  -- The bytes of a packet lie in their source.
+  stage-within : (g : Stage) → s .link .task .stage ≡ g → Within s m (askStage g s)
+  unfolding askStage nextPacket
+  stage-within Ready e = tt
+  stage-within (DataOut block left held) e = tt
+  stage-within (DataIn place left) e =
+      let t = sending place left e in
+      let a = t .1 .within in
+      let l = w .whole in
+      by-if (Within s m) (eqb left 0) _ _ (λ _. tt) (λ _. (t .0, omega arith))
+  stage-within (ReplyIn r place left) e = let a = replying r place left e .within in by-if (Within s m) (eqb left 0) _ _ (λ _. tt) (λ _ k. let z = sizes k r in omega arith)
+  stage-within (StatusDue status) e = tt
+
+  -- Where the code comes to a packet, the machine comes to the same.
+  pub found : (a : Asked) (x y : Source) (t : State) → a ≡ ask s → a ≡ Packet x t → x ≡ y → (ask s ≡ Packet y t) × Within s m (Packet y t)
+  unfolding ask
+  found a x y t e f g =
+      let h : ask s ≡ Packet y t = sym e ∙ f ∙ ap (λ (z : Source). Packet z t) g in
+      (h, subst (Within s m) h (by-if (Within s m) (s .link .haltin) _ _ (λ _. tt) (λ _. stage-within (s .link .task .stage) refl)))
+
+  pub medium-bytes : (i : Identity) (p : List ℕ) (place n : ℕ) → s .link .task .lun ≡ 0 → bytesOf (source.Medium place n) (world (device i s p) (u ∷ []) m) ≡ take n (drop place m)
+  unfolding bytesOf
+  medium-bytes i p place n z = rw z (ap (λ (x : List ℕ). take n (drop place x)) (part-is u m (w .first) (w .whole)))
+
+-- What a packet of n bytes leaves.
+pub delivers : (w : World) (b s : List ℕ) (x : Source) (t : State) (n : ℕ) → ask (w .dev .state) ≡ Packet x t → bytesOf x w ≡ s → length s ≡ n → out (Data n) (inState w t) (placed b 0 s) ≡ packetIn w b
+unfolding packetIn deliver
+delivers w b s x t n e f l =
+    ap (λ (k : ℕ). out (Data k) (inState w t) (placed b 0 s)) (sym l)
+    ∙ sym (ap (λ (a : Asked). deliver a w b) e ∙ ap (λ (y : List ℕ). sends y (inState w t) b) f)
+
+pub length-part : (place n : ℕ) (s : List ℕ) → place + n ≤ length s → length (take n (drop place s)) ≡ n
+length-part place n s h = let d = length-drop place s in length-take-le n (drop place s) (omega arith)

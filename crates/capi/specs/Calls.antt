@@ -12,7 +12,7 @@ use Rattle.machine.specs.Tally.{Making}
 use Rattle.machine.specs.Claim.{lived}
 use Rattle.crecord.specs.declared.record.Record.{Record}
 use Rattle.crecord.specs.declared.record.Told as tolds
-use Rattle.crecord.specs.Flat.{decodes, deviceFrom, recordOf, answer}
+use Rattle.crecord.specs.Flat.{decodes, worldFrom, recordOf, answer}
 use Rattle.cevents.specs.Events.{Left, onRecord, onMaking}
 
 -- What C sees of one call: its number and count, the buffer that it lent, the medium after it.
@@ -48,13 +48,13 @@ byNumber [] = []
 byNumber (s ∷ ss) = seen (answer (numberOf (s .answer)) (countOf (s .answer))) (s .buffer) (s .medium) ∷ byNumber ss
 
 unfoldable pub asCalls : Run → Calls
-asCalls r = record { replies = byNumber (r .replies); rec = recordOf (r .dev); medium = r .medium }
+asCalls r = record { replies = byNumber (r .replies); rec = recordOf (r .world); medium = r .world .medium }
 
--- C sees the machine's run, and the numbers that it holds stand for the machine's record.
+-- C sees the machine's run, and the numbers that it holds stand for the machine's record and its table, beside the medium.
 pub record RunByCalls (k : Making) (es : List Event) : Type 0 where
   pub sees : called k es ≡ asCalls (lived k es)
   pub valid : decodes (called k es .rec .flat) ≡ true
-  pub holds : deviceFrom (called k es .rec) ≡ lived k es .dev
+  pub holds : worldFrom (called k es .rec) (called k es .medium) ≡ lived k es .world
 
 -- Of every making, a refused one too, and every list of events: so at each moment. An answer is known by its number and count, so what demand 3 says of answers
 -- is said of what C sees.

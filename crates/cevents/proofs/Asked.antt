@@ -4,23 +4,26 @@ use mathlib.Core.Path.{_≡_, refl}
 use mathlib.Core.List.{List}
 use native.Mathlib.Omega.{arith}
 use Rattle.usb.specs.Request.{requestOf}
-use Rattle.machine.specs.declared.record.Device.{Device}
+use Rattle.usb.specs.declared.request.Request.{Request}
 use Rattle.machine.specs.Answer.{numberOf}
-use Rattle.machine.specs.Outcome.{Reaction}
-use Rattle.machine.specs.Control.{perform}
-use Rattle.machine.specs.Machine.{Verdict, judged, controlInputs, onControl, control, step}
+use Rattle.machine.specs.World.{World, Out}
+use Rattle.machine.specs.Machine.{effect, control, step}
 use Rattle.machine.proofs.Judge.{judge}
-use Rattle.machine.proofs.Requests.{Did, answered, changed, drops, performs}
+use Rattle.machine.proofs.Requests.{Did, stalls, sends, acks, halts, addresses, configures, resets, performs}
 
-module _ (d : Device) (b : List ℕ) where
-  abbrev Keeps : Reaction → Type 0
-  Keeps r = numberOf (r .answer) ≡ 0 → r .dev ≡ d
+module _ (w : World) (b : List ℕ) where
+  abbrev Keeps : Out → Type 0
+  Keeps o = numberOf (o .answer) ≡ 0 → o .world ≡ w
 
-  keeps : (r : Reaction) → Did d b r → Keeps r
-  keeps r (answered a x) e = refl
-  keeps r (changed s u t) e = absurd (omega arith)
-  keeps r (drops a c hi ho) e = absurd (omega arith)
+  keeps : (q : Request) (o : Out) → Did w b q o → Keeps o
+  keeps q o stalls e = refl
+  keeps q o (sends s n) e = refl
+  keeps q o (acks m) e = refl
+  keeps q o (halts hi ho m c k) e = absurd (omega arith)
+  keeps q o (addresses a c) e = absurd (omega arith)
+  keeps q o (configures v) e = absurd (omega arith)
+  keeps q o (resets c) e = absurd (omega arith)
 
-  pub asked : (s m : List ℕ) → numberOf (step d m (control s b) .answer) ≡ 0 → step d m (control s b) .dev ≡ d
-  unfolding step onControl judged
-  asked s m = judge (λ (v : Verdict). Keeps (judged v d b (perform (requestOf s) d b))) d (controlInputs s b) (λ a x _. refl) (λ _. keeps _ (performs d b (requestOf s)))
+  pub asked : (s : List ℕ) → Keeps (step w (control s b))
+  unfolding effect
+  asked s = judge Keeps w (control s b) (λ a x _. refl) (λ _. keeps _ _ (performs w b (requestOf s)))

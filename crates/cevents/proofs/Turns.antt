@@ -2,50 +2,53 @@
 use Prim.Native.Nat.{ℕ, _<_}
 use mathlib.Core.Path.{_≡_, refl, sym, ap, _∙_}
 use mathlib.Core.Bool.{true, false}
-use mathlib.Core.List.{List}
+use mathlib.Core.List.{List, [], _∷_}
 use native.Mathlib.Omega.{arith}
 use Rattle.wire.proofs.Cases.{by-if, if-true, if-false}
 use Rattle.usb.specs.declared.descriptor.Identity.{Identity}
 use Rattle.machine.specs.declared.answer.Answer.{Answer}
 use Rattle.machine.specs.declared.answer.Answer.the-variants.{Data, Ack, Nak, Stall, Silent, Refused}
-use Rattle.machine.specs.declared.record.Device.{Device}
+use Rattle.machine.specs.declared.record.LogicalUnit.{LogicalUnit}
 use Rattle.machine.specs.declared.record.State.{State}
 use Rattle.machine.specs.Answer.{numberOf, countOf}
 use Rattle.machine.specs.Record.{device}
-use Rattle.machine.specs.Fits.{numberFits}
-use Rattle.machine.specs.Making.{mediumServed, Made, made, make, ToldMade, toldMade}
-use Rattle.machine.specs.Machine.{Event, control, Told, out, told, step}
+use Rattle.machine.specs.Making.{Made, made, make, ToldMade, toldMade}
+use Rattle.machine.specs.World.{World, world, out}
+use Rattle.machine.specs.Machine.{Event, lent, control, Told, told, step}
+use Rattle.state.specs.declared.gate.Moved.{Moved}
+use Rattle.collector.specs.declared.making.Made as mades
 use Rattle.cevents.proofs.Asked.{asked}
 use Rattle.crecord.proofs.RoundTrip.{round-trip}
 use Rattle.crecord.specs.declared.record.Given.{Given}
 use Rattle.crecord.specs.declared.record.Flat as flats
 use Rattle.crecord.specs.declared.record.Told as tolds
-use Rattle.crecord.specs.Flat.{decodes, stateFrom, identityFrom, flatOf, givenOf, answer, rec}
-use Rattle.cevents.specs.Events.{left, leaves, lent, onRecord, leftMade, leavesMade, onMaking}
+use Rattle.crecord.specs.Flat.{decodes, stateFrom, unitFrom, identityFrom, flatOf, givenOf, answer, rec, recordOf}
+use Rattle.cevents.specs.Events.{left, leaves, onRecord, leftMade, leavesMade, onMaking}
 
 made-number : (i : Identity) (m : List ℕ) → 0 < numberOf (make i m .answer)
 unfolding make
 made-number i m =
-    by-if (λ (r : Made). 0 < numberOf (r .answer)) (mediumServed m) _ _
-    (λ e. by-if (λ (r : Made). 0 < numberOf (r .answer)) (numberFits (i .number)) _ _ (λ e. omega arith) (λ e. omega arith))
-    (λ e. omega arith)
+    let P : Made → Type 0 = λ r. 0 < numberOf (r .answer) in
+    by-if P _ _ _ (λ _. by-if P _ _ _ (λ _. omega arith) (λ _. omega arith)) (λ _. omega arith)
+
+-- What the code of an event leaves is what its step leaves.
+abbrev Turns : Identity → State → LogicalUnit → List ℕ → List ℕ → Event → Moved → List ℕ → List ℕ → List ℕ → Type 0
+Turns i s u p m e x p' m' b' = told (out (x .answer) (world (device i (x .state) p') (x .unit ∷ []) m') b') ≡ told (step (world (device i s p) (u ∷ []) m) e)
 
 module _ (g : Given) (f f' : flats.Flat) (e : Event) (p m : List ℕ) (t : tolds.Told) where
   pub undecoded : decodes f ≡ false → t ≡ answer 10 0 → f' ≡ f → left t (rec g f' p) m (lent e) ≡ onRecord (rec g f p) m e
   unfolding onRecord
   undecoded d et ef = simp (et, ef) (sym (if-false _ _ _ d))
 
-  pub decoded : (i : Identity) (s s' : State) (a : Answer) (p' m' b' : List ℕ)
-      → decodes f ≡ true → i ≡ identityFrom g → s ≡ stateFrom f → told (out a (device i s' p') m' b') ≡ told (step (device i s p) m e)
-      → t ≡ answer (numberOf a) (countOf a) → f' ≡ flatOf s' → left t (rec g f' p') m' b' ≡ onRecord (rec g f p) m e
+  pub decoded : (i : Identity) (s : State) (u : LogicalUnit) (x : Moved) (p' m' b' : List ℕ)
+      → decodes f ≡ true → i ≡ identityFrom g → s ≡ stateFrom f → u ≡ unitFrom f → Turns i s u p m e x p' m' b'
+      → t ≡ answer (numberOf (x .answer)) (countOf (x .answer)) → f' ≡ flatOf (x .state) (x .unit) → left t (rec g f' p') m' b' ≡ onRecord (rec g f p) m e
   unfolding onRecord
-  decoded i s s' a p' m' b' d ei es h et ef =
+  decoded i s u x p' m' b' d ei es eu h et ef =
       simp (et, ef)
       (ap leaves
-      (ap (λ (j : Identity). told (out a (device j s' p') m' b')) (sym ei)
-      ∙ h
-      ∙ ap (λ (j : Identity). told (step (device j s p) m e)) ei
-      ∙ ap (λ (x : State). told (step (device (identityFrom g) x p) m e)) es)
+      ((λ j. told (out (x .answer) (world (device (sym ei j) (x .state) p') (x .unit ∷ []) m') b'))
+      ∙ h ∙ (λ j. told (step (world (device (ei j) (es j) p) (eu j ∷ []) m) e)))
       ∙ sym (if-true _ _ _ d))
 
 -- A making is never answered with data.
@@ -57,20 +60,21 @@ countless Stall i m e = refl
 countless Silent i m e = refl
 countless (Refused r) i m e = refl
 
-pub making : (g : Given) (m : List ℕ) (i : Identity) (a : Answer) (d : Device) (t : tolds.Told) (g' : Given) (f' : flats.Flat)
-    → i ≡ identityFrom g → toldMade (made a d) ≡ toldMade (make i m) → t ≡ answer (numberOf a) (countOf a) → g' ≡ givenOf (d .identity) → f' ≡ flatOf (d .state)
-    → leftMade t (rec g' f' (d .part)) ≡ onMaking (identityFrom g) m
+pub making : (g : Given) (m : List ℕ) (i : Identity) (x : mades.Made) (t : tolds.Told) (g' : Given) (f' : flats.Flat)
+    → i ≡ identityFrom g → toldMade (made (x .answer) (x .device) (x .unit ∷ [])) ≡ toldMade (make i m) → t ≡ answer (numberOf (x .answer)) (countOf (x .answer))
+    → g' ≡ givenOf (x .device .identity) → f' ≡ flatOf (x .device .state) (x .unit)
+    → leftMade t (rec g' f' (x .device .part)) ≡ onMaking (identityFrom g) m
 unfolding onMaking
-making g m i a d t g' f' ei h et eg ef =
-    simp (et, countless a i m (ap (λ (x : ToldMade). x .number) h), eg, ef) (ap leavesMade (h ∙ ap (λ (j : Identity). toldMade (make j m)) ei))
+making g m i x t g' f' ei h et eg ef =
+    simp (et, countless (x .answer) i m (ap (λ (y : ToldMade). y .number) h), eg, ef)
+    (ap (λ (y : ToldMade). leavesMade y m) (h ∙ ap (λ (j : Identity). toldMade (make j m)) ei))
 
 -- A control request that is answered with data leaves the numbers as they were.
-pub unchanged : (g : Given) (f : flats.Flat) (setup p m b b' p' : List ℕ) (i : Identity) (s s' : State) (a : Answer) (t : tolds.Told)
-    → decodes f ≡ true → i ≡ identityFrom g → s ≡ stateFrom f → told (out a (device i s' p') m b') ≡ told (step (device i s p) m (control setup b))
-    → t ≡ answer (numberOf a) (countOf a) → t .number ≡ 0 → left t (rec g f p') m b' ≡ onRecord (rec g f p) m (control setup b)
-unchanged g f setup p m b b' p' i s s' a t d ei es h et z =
-    let n : numberOf (step (device i s p) m (control setup b) .answer) ≡ 0 =
-    sym (ap (λ (x : Told). x .number) h) ∙ sym (ap (λ (x : tolds.Told). x .number) et) ∙ z
-    in
-    let k : s' ≡ stateFrom f = ap (λ (x : Told). x .dev .state) h ∙ ap (λ (x : Device). x .state) (asked (device i s p) b setup m n) ∙ es in
-    decoded g f f (control setup b) p m t i s s' a p' m b' d ei es h et (sym (round-trip .read-is-written f d) ∙ ap flatOf (sym k))
+pub unchanged : (g : Given) (f : flats.Flat) (setup p m b b' p' : List ℕ) (i : Identity) (s : State) (u : LogicalUnit) (x : Moved) (t : tolds.Told)
+    → decodes f ≡ true → i ≡ identityFrom g → s ≡ stateFrom f → u ≡ unitFrom f → Turns i s u p m (control setup b) x p' m b'
+    → t ≡ answer (numberOf (x .answer)) (countOf (x .answer)) → t .number ≡ 0 → left t (rec g f p') m b' ≡ onRecord (rec g f p) m (control setup b)
+unchanged g f setup p m b b' p' i s u x t d ei es eu h et z =
+    let w : World = world (device i s p) (u ∷ []) m in
+    let n : numberOf (step w (control setup b) .answer) ≡ 0 = sym (ap (λ (y : Told). y .number) h) ∙ sym (ap (λ (y : tolds.Told). y .number) et) ∙ z in
+    let k : flatOf (x .state) (x .unit) ≡ flatOf s u = ap (λ (y : World). recordOf y .flat) (ap (λ (y : Told). y .world) h ∙ asked w b setup n) in
+    decoded g f f (control setup b) p m t i s u x p' m b' d ei es eu h et (sym (k ∙ (λ j. flatOf (es j) (eu j)) ∙ round-trip .read-is-written f d))

@@ -3,7 +3,8 @@
 use Prim.Native.Nat.{ℕ, _*_, _≤_, _<_}
 use mathlib.Core.Path.{_≡_}
 use mathlib.Core.Bool.{true}
-use Rattle.machine.specs.Fits.{sizeFits, numberFits, outFits, inFits}
+use Rattle.machine.specs.Units.{sizeFits}
+use Rattle.machine.specs.Fits.{numberFits, outFits, inFits}
 use Rattle.crecord.specs.declared.record.Given.{Given}
 use Rattle.crecord.specs.declared.record.Flat as flats
 

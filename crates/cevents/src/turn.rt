@@ -1,4 +1,4 @@
-// The events on the record as C holds it: decoded, turned by `collector`, encoded. The commonest events go a shorter way.
+// The events on the record as C holds it: decoded, turned by `control` or `bulk`, encoded. The commonest events go a shorter way.
 ghost use mathlib.Core.Path.{_≡_};
 ghost use mathlib.Core.List.{List, []};
 ghost use Prim.Native.Nat.{ℕ};
@@ -16,12 +16,13 @@ use bot::csw::Status;
 use bot::csw::csw_bytes;
 use bulk::parts::in_parts;
 use bulk::parts::out_parts;
-use collector::events::make;
+use collector::making::make;
 use control::parts::control_parts;
 use control::parts::reset_parts;
 use crecord::decode::decodes;
 use crecord::decode::identity_from;
 use crecord::decode::state_from;
+use crecord::decode::unit_from;
 use crecord::encode::flat_of;
 use crecord::encode::given_of;
 use crecord::encode::told;
@@ -64,9 +65,10 @@ pub fn turn_make(given: Given, medium: &[u8]) -> MadeTurn
     let made = make(identity, medium);
     let answer = made.answer;
     let device = made.device;
+    let unit = made.unit;
     let told = told(answer);
     let given = given_of(device.identity);
-    let flat = flat_of(device.state);
+    let flat = flat_of(device.state, unit);
     let part = device.part;
     MadeTurn {
         told,
@@ -80,11 +82,17 @@ pub fn turn_reset(given: Given, flat: Flat, part: &mut [u8; 512]) -> Turn
     if !decodes(flat) {
         return undecoded(flat);
     }
-    let moved = reset_parts(identity_from(given), state_from(flat), part);
+    let moved = reset_parts(
+        identity_from(given),
+        state_from(flat),
+        unit_from(flat),
+        part,
+    );
     let answer = moved.answer;
     let state = moved.state;
+    let unit = moved.unit;
     let told = told(answer);
-    let flat = flat_of(state);
+    let flat = flat_of(state, unit);
     Turn { told, flat }
 }
 
@@ -100,16 +108,24 @@ pub fn turn_control(
     if !decodes(flat) {
         return undecoded(flat);
     }
-    let moved = control_parts(identity_from(given), state_from(flat), part, setup, buffer);
+    let moved = control_parts(
+        identity_from(given),
+        state_from(flat),
+        unit_from(flat),
+        part,
+        setup,
+        buffer,
+    );
     let answer = moved.answer;
     let state = moved.state;
+    let unit = moved.unit;
     let told = told(answer);
     let number = told.number;
     // A request that is answered with data changes no record.
     if number == 0 {
         return Turn { told, flat };
     }
-    let flat = flat_of(state);
+    let flat = flat_of(state, unit);
     Turn { told, flat }
 }
 
@@ -166,11 +182,19 @@ fn any_out(given: Given, flat: Flat, part: &mut [u8; 512], medium: &mut [u8], pa
     if !decodes(flat) {
         return undecoded(flat);
     }
-    let moved = out_parts(identity_from(given), state_from(flat), part, medium, packet);
+    let moved = out_parts(
+        identity_from(given),
+        state_from(flat),
+        unit_from(flat),
+        part,
+        medium,
+        packet,
+    );
     let answer = moved.answer;
     let state = moved.state;
+    let unit = moved.unit;
     let told = told(answer);
-    let flat = flat_of(state);
+    let flat = flat_of(state, unit);
     Turn { told, flat }
 }
 
@@ -181,11 +205,18 @@ fn any_in(given: Given, flat: Flat, medium: &[u8], buffer: &mut [u8]) -> Turn
     if !decodes(flat) {
         return undecoded(flat);
     }
-    let moved = in_parts(identity_from(given), state_from(flat), medium, buffer);
+    let moved = in_parts(
+        identity_from(given),
+        state_from(flat),
+        unit_from(flat),
+        medium,
+        buffer,
+    );
     let answer = moved.answer;
     let state = moved.state;
+    let unit = moved.unit;
     let told = told(answer);
-    let flat = flat_of(state);
+    let flat = flat_of(state, unit);
     Turn { told, flat }
 }
 

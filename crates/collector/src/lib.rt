@@ -1,4 +1,4 @@
-// The collector: making one over a lent medium, and the four bus events over the record whole. Each function is one
-// equation with the specification machine (crate `machine`). What the events do is in `control` and `bulk`, which take
-// the small state by value and the block being gathered as a lent array.
-pub mod events;
+// Making a collector over a lent medium: one equation with the specification machine (crate `machine`). The four events
+// are in `control` and `bulk`, which take the small state and the unit by value and the block being gathered as a lent
+// array.
+pub mod making;

@@ -1,43 +1,46 @@
-// Bus reset and a control request over the parts of a record: identity and state by value, the block being gathered lent.
-// Each is one equation with the specification machine, for every input.
+// Bus reset and a control request over the parts of a collector: identity, state and unit by value, the block being
+// gathered lent. Each is one equation with the specification machine, for every input.
 ghost use mathlib.Core.Path.{_≡_};
-ghost use mathlib.Core.List.{List, []};
+ghost use mathlib.Core.List.{List, [], _∷_};
 ghost use Prim.Native.Nat.{ℕ};
 ghost use Rattle.machine.specs.Record.{device};
-ghost use Rattle.machine.specs.Machine.{out, told, step, busReset, control};
+ghost use Rattle.machine.specs.World.{world, out};
+ghost use Rattle.machine.specs.Machine.{told, step, busReset, control};
+use crate::requests::drop_command;
 use crate::requests::perform;
-use machine::answer::Answer;
+use machine::checks::Checks;
+use machine::checks::Verdict;
+use machine::record::LogicalUnit;
 use machine::record::State;
 use state::fits::fits;
-use state::gate::Checks;
-use state::gate::Gate;
 use state::gate::Moved;
 use state::gate::admit;
-use state::states::dropped_state;
-use state::states::wipe;
 use usb::descriptor::Identity;
 use usb::request::request_of;
 
 // Drops the command, and clears halts, address and configuration.
-pub fn reset_parts(identity: Identity, state: State, part: &mut [u8; 512]) -> Moved
-    ensures { λ r. ⌜ ((m : List ℕ) → told (out (r .answer) (device identity (r .state) (now (part .exit))) m []) ≡ told (step (device identity state (now (part .entry))) m busReset)) ⌝ }
+pub fn reset_parts(
+    identity: Identity,
+    state: State,
+    unit: LogicalUnit,
+    part: &mut [u8; 512],
+) -> Moved
+    ensures { λ r. ⌜ ((m : List ℕ) → told (out (r .answer) (world (device identity (r .state) (now (part .exit))) (r .unit ∷ []) m) []) ≡ told (step (world (device identity state (now (part .entry))) (unit ∷ []) m) busReset)) ⌝ }
 {
     match admit(Checks {
-        fits: fits(identity, state),
+        fits: fits(identity, state, unit),
         medium: true,
         buffer: true,
         packet: true,
         setup: true,
         configured: true,
     }) {
-        Gate::Shut(answer) => Moved { answer, state },
-        Gate::Open => {
-            wipe(part);
-            Moved {
-                answer: Answer::Ack,
-                state: dropped_state(state, 0, false, false, false),
-            }
-        }
+        Verdict::Refuses(answer) => Moved {
+            answer,
+            state,
+            unit,
+        },
+        Verdict::Passes => drop_command(unit, part, 0, false, false, false),
     }
 }
 
@@ -45,24 +48,29 @@ pub fn reset_parts(identity: Identity, state: State, part: &mut [u8; 512]) -> Mo
 pub fn control_parts(
     identity: Identity,
     state: State,
+    unit: LogicalUnit,
     part: &mut [u8; 512],
     setup: &[u8],
     buffer: &mut [u8],
 ) -> Moved
-    ensures { λ r. ⌜ ((m : List ℕ) → told (out (r .answer) (device identity (r .state) (now (part .exit))) m (now (buffer .exit))) ≡ told (step (device identity state (now (part .entry))) m (control (now (setup .entry)) (now (buffer .entry))))) ⌝ }
+    ensures { λ r. ⌜ ((m : List ℕ) → told (out (r .answer) (world (device identity (r .state) (now (part .exit))) (r .unit ∷ []) m) (now (buffer .exit))) ≡ told (step (world (device identity state (now (part .entry))) (unit ∷ []) m) (control (now (setup .entry)) (now (buffer .entry))))) ⌝ }
 {
     match admit(Checks {
-        fits: fits(identity, state),
+        fits: fits(identity, state, unit),
         medium: true,
         buffer: 64 <= buffer.len(),
         packet: true,
         setup: setup.len() == 8,
         configured: true,
     }) {
-        Gate::Shut(answer) => Moved { answer, state },
-        Gate::Open => {
+        Verdict::Refuses(answer) => Moved {
+            answer,
+            state,
+            unit,
+        },
+        Verdict::Passes => {
             let request = request_of(setup);
-            perform(request, identity, state, part, buffer)
+            perform(request, identity, state, unit, part, buffer)
         }
     }
 }

@@ -19,10 +19,12 @@ use Rattle.scsi.proofs.Pages.{code-found, CodeIs, found-code}
 use Rattle.bot.specs.declared.csw.Status.the-variants.{Passed, Failed, PhaseError}
 use Rattle.machine.specs.declared.record.Stage.{Stage}
 use Rattle.machine.specs.declared.record.Stage.the-variants.{Ready, DataOut, DataIn, ReplyIn, StatusDue}
+use Rattle.machine.specs.declared.record.LogicalUnit.{LogicalUnit}
 use Rattle.machine.specs.declared.record.State.{State}
+use Rattle.machine.specs.Units.{unit}
 use Rattle.machine.specs.Record.{task, link, state}
 use Rattle.crecord.specs.declared.record.Flat as flats
-use Rattle.crecord.specs.Flat.{numbers, numbersIn, senseNumber, senseFrom, isFound, pageStage, Form, none, two, three, noNumbers, noValue, isPage, forms, noForm, formOf, flag, decodes, stateFrom}
+use Rattle.crecord.specs.Flat.{numbers, numbersIn, senseNumber, senseFrom, isFound, pageStage, Form, none, two, three, noNumbers, noValue, isPage, forms, noForm, formOf, flag, decodes, stateFrom, unitFrom}
 use Rattle.crecord.specs.Flat.{numbersOf, worth, flagsOf, flatWith, flatOf}
 use Rattle.crecord.specs.declared.encode.Numbers.{Numbers}
 use Rattle.crecord.specs.Claims.{IsState, RoundTrip}
@@ -170,19 +172,23 @@ stage-again n =
 
 -- ---- the whole state
 
-written-decodes : (s : State) → IsState s → decodes (flatOf s) ≡ true
+written-decodes : (s : State) (u : LogicalUnit) → IsState s → decodes (flatOf s u) ≡ true
 unfolding decodes flatOf flatWith
-written-decodes s ok = and-true _ _ (le-leb _ _ (flags-back s .small)) (stage-back (s .link .task .stage) ok .0)
+written-decodes s u ok = and-true _ _ (le-leb _ _ (flags-back s .small)) (stage-back (s .link .task .stage) (ok .sense) .0)
 
-written-is-read : (s : State) → IsState s → stateFrom (flatOf s) ≡ s
+written-is-read : (s : State) (u : LogicalUnit) → IsState s → stateFrom (flatOf s u) ≡ s
 unfolding stateFrom flatOf flatWith
-written-is-read s ok =
+written-is-read s u ok =
     let f = flags-back s in
     let t = s .link .task in
-    let g = stage-back (t .stage) ok .1 in
-    λ i. state (s .address) (f .configured i) (s .unit) (link (f .haltin i) (f .haltout i) (f .locked i) (task (g i) (t .tag) (t .announced) (t .residue)))
+    let g = stage-back (t .stage) (ok .sense) .1 in
+    λ i. state (s .address) (f .configured i) (link (f .haltin i) (f .haltout i) (f .locked i) (task (g i) (sym (ok .lun) i) (t .tag) (t .announced) (t .residue)))
 
-read-is-written : (f : flats.Flat) → decodes f ≡ true → flatOf (stateFrom f) ≡ f
+written-unit-is-read : (s : State) (u : LogicalUnit) → u .first ≡ 0 → unitFrom (flatOf s u) ≡ u
+unfolding flatOf flatWith
+written-unit-is-read s u e = λ i. unit (sym e i) (u .blocks) (u .sense)
+
+read-is-written : (f : flats.Flat) → decodes f ≡ true → flatOf (stateFrom f) (unitFrom f) ≡ f
 unfolding decodes stateFrom flatOf flatWith flagsOf
 read-is-written f h =
     let d = both _ _ h in
@@ -207,4 +213,4 @@ read-is-written f h =
     }
 
 pub round-trip : RoundTrip
-round-trip = record { written-decodes = written-decodes; written-is-read = written-is-read; read-is-written = read-is-written }
+round-trip = record { written-decodes = written-decodes; written-is-read = written-is-read; written-unit-is-read = written-unit-is-read; read-is-written = read-is-written }

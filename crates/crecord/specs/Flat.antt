@@ -15,9 +15,12 @@ use Rattle.bot.specs.declared.csw.Status.the-variants.{Passed, Failed, PhaseErr
 use Rattle.usb.specs.declared.descriptor.Identity.{Identity}
 use Rattle.machine.specs.declared.record.Stage.{Stage}
 use Rattle.machine.specs.declared.record.Stage.the-variants.{Ready, DataOut, DataIn, ReplyIn, StatusDue}
+use Rattle.machine.specs.declared.record.LogicalUnit.{LogicalUnit}
 use Rattle.machine.specs.declared.record.State.{State}
 use Rattle.machine.specs.declared.record.Device.{Device}
-use Rattle.machine.specs.Record.{unit, task, link, state, device}
+use Rattle.machine.specs.Units.{unit, unitAt}
+use Rattle.machine.specs.Record.{task, link, state, device}
+use Rattle.machine.specs.World.{World, world}
 use Rattle.crecord.specs.declared.record.Given.{Given}
 use Rattle.crecord.specs.declared.record.Flat as flats
 use Rattle.crecord.specs.declared.record.Record.{Record}
@@ -105,12 +108,16 @@ flag n flags = eqb (bits n n flags) 1
 unfoldable pub decodes : flats.Flat → Bool
 decodes f = leb (f .flags) 15 and formOf (f .stage) .has (numbersIn f)
 
+-- There is one unit, and its number is 0.
 unfoldable pub stateFrom : flats.Flat → State
 stateFrom f =
     state (f .address) (flag 0 (f .flags))
-    (unit (f .blocks) (record { key = f .key; asc = f .asc; ascq = f .ascq; information = f .information }))
     (link (flag 1 (f .flags)) (flag 2 (f .flags)) (flag 3 (f .flags))
-    (task (formOf (f .stage) .stage (numbersIn f)) (f .tag) (f .announced) (f .residue)))
+    (task (formOf (f .stage) .stage (numbersIn f)) 0 (f .tag) (f .announced) (f .residue)))
+
+-- The unit has the whole medium.
+abbrev pub unitFrom : flats.Flat → LogicalUnit
+unitFrom f = unit 0 (f .blocks) (record { key = f .key; asc = f .asc; ascq = f .ascq; information = f .information })
 
 abbrev pub identityFrom : Given → Identity
 identityFrom g = record { number = g .number; vendor = g .vendor; product = g .product; release = g .release }
@@ -136,8 +143,8 @@ worth on n = if on then n else 0
 unfoldable pub flagsOf : State → ℕ
 flagsOf s = worth (s .configured) 1 + worth (s .link .haltin) 2 + worth (s .link .haltout) 4 + worth (s .link .locked) 8
 
-unfoldable pub flatWith : State → Numbers → flats.Flat
-flatWith s n =
+unfoldable pub flatWith : State → LogicalUnit → Numbers → flats.Flat
+flatWith s u n =
     record {
       residue = s .link .task .residue;
       place = n .place;
@@ -146,18 +153,18 @@ flatWith s n =
       extra = n .extra;
       tag = s .link .task .tag;
       announced = s .link .task .announced;
-      blocks = s .unit .blocks;
-      information = s .unit .sense .information;
+      blocks = u .blocks;
+      information = u .sense .information;
       stage = n .stage;
       flags = flagsOf s;
       address = s .address;
-      key = s .unit .sense .key;
-      asc = s .unit .sense .asc;
-      ascq = s .unit .sense .ascq;
+      key = u .sense .key;
+      asc = u .sense .asc;
+      ascq = u .sense .ascq;
     }
 
-unfoldable pub flatOf : State → flats.Flat
-flatOf s = flatWith s (numbersOf (s .link .task .stage))
+unfoldable pub flatOf : State → LogicalUnit → flats.Flat
+flatOf s u = flatWith s u (numbersOf (s .link .task .stage))
 
 abbrev pub givenOf : Identity → Given
 givenOf i = record { number = i .number; vendor = i .vendor; product = i .product; release = i .release }
@@ -170,8 +177,12 @@ rec g f p = record { given = g; flat = f; part = p }
 abbrev pub deviceFrom : Record → Device
 deviceFrom r = device (identityFrom (r .given)) (stateFrom (r .flat)) (r .part)
 
-abbrev pub recordOf : Device → Record
-recordOf d = rec (givenOf (d .identity)) (flatOf (d .state)) (d .part)
+-- The medium is lent beside the record.
+abbrev pub worldFrom : Record → List ℕ → World
+worldFrom r m = world (deviceFrom r) (unitFrom (r .flat) ∷ []) m
+
+abbrev pub recordOf : World → Record
+recordOf w = rec (givenOf (w .dev .identity)) (flatOf (w .dev .state) (unitAt (w .units) 0)) (w .dev .part)
 
 -- ---- an answer: document 01's number, and the count of bytes that data has
 

@@ -1,7 +1,7 @@
 // From the numbers that C holds to the device's state.
 ghost use mathlib.Core.Path.{_≡_};
 ghost use Rattle.scsi.specs.Page.{pageOf};
-ghost use Rattle.crecord.specs.Flat.{numbers, numbersIn, noValue, noNumbers, formOf, isPage, pageStage, decodes, senseFrom, stateFrom, identityFrom};
+ghost use Rattle.crecord.specs.Flat.{numbers, numbersIn, noValue, noNumbers, formOf, isPage, pageStage, decodes, senseFrom, stateFrom, unitFrom, identityFrom};
 use crate::record::Flat;
 use crate::record::Given;
 use bot::csw::Status;
@@ -157,6 +157,7 @@ fn stage_from(flat: Flat) -> Stage
     }
 }
 
+// There is one unit, and its number is 0.
 pub fn state_from(flat: Flat) -> State
     ensures { λ r. ⌜ r ≡ stateFrom flat ⌝ }
 {
@@ -165,25 +166,33 @@ pub fn state_from(flat: Flat) -> State
     State {
         address: flat.address,
         configured: flags % 2 == 1,
-        unit: LogicalUnit {
-            blocks: flat.blocks,
-            sense: Sense {
-                key: flat.key,
-                asc: flat.asc,
-                ascq: flat.ascq,
-                information: flat.information,
-            },
-        },
         link: Link {
             haltin: flags / 2 % 2 == 1,
             haltout: flags / 4 % 2 == 1,
             locked: flags / 8 % 2 == 1,
             task: Task {
                 stage,
+                lun: 0,
                 tag: flat.tag,
                 announced: flat.announced,
                 residue: flat.residue,
             },
+        },
+    }
+}
+
+// The unit has the whole medium.
+pub fn unit_from(flat: Flat) -> LogicalUnit
+    ensures { λ r. ⌜ r ≡ unitFrom flat ⌝ }
+{
+    LogicalUnit {
+        first: 0,
+        blocks: flat.blocks,
+        sense: Sense {
+            key: flat.key,
+            asc: flat.asc,
+            ascq: flat.ascq,
+            information: flat.information,
         },
     }
 }

@@ -8,6 +8,7 @@ use crate::record::Told;
 use bot::csw::Status;
 use machine::answer::Answer;
 use machine::answer::Refusal;
+use machine::record::LogicalUnit;
 use machine::record::Stage;
 use machine::record::State;
 use scsi::page::page_code;
@@ -83,10 +84,9 @@ fn numbers_of(stage: Stage) -> Numbers
     }
 }
 
-pub fn flat_of(state: State) -> Flat
-    ensures { λ r. ⌜ r ≡ flatOf state ⌝ }
+pub fn flat_of(state: State, unit: LogicalUnit) -> Flat
+    ensures { λ r. ⌜ r ≡ flatOf state unit ⌝ }
 {
-    let unit = state.unit;
     let link = state.link;
     let sense = unit.sense;
     let task = link.task;

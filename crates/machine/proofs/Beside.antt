@@ -1,177 +1,163 @@
 -- Every record reached fits; where a wrapper is due, exactly; and recovery can be had. Assumes nothing.
-use Prim.Native.Nat.{ℕ, _*_, _≤_, _%_}
+use Prim.Native.Nat.{ℕ, _≤_}
 use mathlib.Core.Path.{_≡_, refl, sym, ap, _∙_, subst}
 use mathlib.Core.Bool.{Bool, true, false}
 use mathlib.Core.List.{List, [], _∷_, _++_}
 use native.Mathlib.Omega.{arith}
 use lib.ListN.{length}
-use borrow.Author.Tests.{eqb-true, eq-eqb, le-leb}
-use Rattle.wire.specs.Choice.{if_then_else_, _and_, look}
-use Rattle.wire.specs.Bits.{bits, clear}
-use Rattle.wire.specs.Numbers.{value}
-use Rattle.wire.specs.Slices.{bytesAt, zeros, startsWith}
+use borrow.Author.Tests.{le-leb, lt-ltb}
+use Rattle.wire.specs.Slices.{zeros}
 use Rattle.wire.proofs.Cases.{both, if-true, if-false}
-use Rattle.scsi.specs.Command.{blockLength, commandOf, commands}
-use Rattle.scsi.specs.Sense.{noSense}
 use Rattle.scsi.specs.declared.command.Plan.{Plan}
+use Rattle.scsi.specs.declared.command.Plan.the-variants.{Nothing}
 use Rattle.scsi.proofs.Plans.{test-has-nothing}
-use Rattle.cases.specs.Cases.{counted, meeting, caseOf}
-use Rattle.bot.specs.Cbw.{cbwSignature, inRange, readable, headerOf}
+use Rattle.bot.specs.Cbw.{cbwSignature, headerOf}
 use Rattle.bot.specs.declared.csw.Status.the-variants.{Passed}
 use Rattle.bot.proofs.Wrappers.{readable-long}
 use Rattle.machine.specs.declared.wrapper.Wrapper.{Wrapper}
 use Rattle.machine.specs.declared.wrapper.Wrapper.the-variants.{Good}
 use Rattle.machine.specs.declared.record.Stage.{Stage}
 use Rattle.machine.specs.declared.record.Stage.the-variants.{StatusDue}
-use Rattle.machine.specs.declared.record.Device.{Device}
-use Rattle.machine.specs.declared.answer.Answer.{Answer}
 use Rattle.machine.specs.declared.answer.Answer.the-variants.{Ack, Nak}
-use Rattle.machine.specs.Record.{fresh, task, withHalts, droppedState, dropped, moved, withState}
-use Rattle.machine.specs.Fits.{fits}
-use Rattle.machine.specs.Making.{blocksIn, mediumServed, make}
-use Rattle.machine.specs.Outcome.{Effect, effects}
+use Rattle.machine.specs.Units.{cleared, mediumFits}
+use Rattle.machine.specs.Record.{withHalts, droppedState}
+use Rattle.machine.specs.World.{World, dropped, Out, out}
 use Rattle.machine.specs.Control.{haltIn, haltOut}
 use Rattle.machine.specs.Wrapper.{accepted, wrapperOf}
-use Rattle.machine.specs.Begin.{hostOf, hasOf, senseOf, ownStatus, firstStage, haltsIn, haltsOut, sensed, staged, begunBy, begun}
 use Rattle.machine.specs.Bulk.{onWrapper, outStage, packetOut}
-use Rattle.machine.specs.Machine.{Event, bulkOut, where-lent, check, checks, judgedOut, onBulkOut, Out, out, unlent, step, run, inOrder}
+use Rattle.machine.specs.Making.{make}
+use Rattle.machine.specs.Machine.{Event, bulkOut, fitting, checks, effect, step, run}
 use Rattle.machine.specs.Tally.{Making}
-use Rattle.machine.specs.Claim.{answers, lived, recovery, goodTest, WrapperDue}
+use Rattle.machine.specs.Claim.{answers, born, Makes, lived, recovery, goodTest, WrapperDue}
 use Rattle.machine.specs.Beside.{Reached, IsDue, Accepts, DueExactly, CanRecover}
-use Rattle.machine.proofs.Along.{along}
+use Rattle.machine.proofs.Compute.{computes}
+use Rattle.machine.proofs.Along.{always}
+use Rattle.machine.proofs.Judge.{passes}
+use Rattle.machine.proofs.Tables.{cleared-sensed, same-total, laid-some}
+use Rattle.machine.proofs.Fit.{Fit, fit-of, fits-of}
+use Rattle.machine.proofs.Reach.{stays-fit}
+use Rattle.machine.proofs.Recover.{fits-after, fits-fresh, resets, clears-in, clears-out}
 use Rattle.machine.proofs.Due.{due}
-use Rattle.machine.proofs.Reach.{Fine, fit-of, fits-of, stays-fit}
-use Rattle.machine.proofs.Recover.{fits-fresh, resets, clears-in, clears-out}
-use Rattle.machine.proofs.Demand.{sound, small-of, together, same-size}
+use Rattle.machine.proofs.Demand.{sound, born-fresh, together, same-parts, same-size}
 
 -- ---- every record reached fits
 
-fresh-fits : (k : Making) → make (k .identity) (k .medium) .answer ≡ Ack → Fine (make (k .identity) (k .medium) .dev)
-unfolding fresh
-fresh-fits k ok =
+born-fits : (k : Making) → Makes k → Fit (born k)
+born-fits k ok =
     let s = sound (k .identity) (k .medium) ok in
-    subst Fine (sym (s .device)) (fit-of _ _ (fits-fresh (k .identity) (blocksIn (k .medium)) (small-of (k .medium) (s .served)) (s .numbered)))
-
-all-fit : (k : Making) → make (k .identity) (k .medium) .answer ≡ Ack → (es : List Event) → Fine (lived k es .dev)
-unfolding lived
-all-fit k ok es =
-    along (λ (u : Unit {0}) (e : Event) (a : Answer). u) (λ (u : Unit {0}) (d : Device) (m : List ℕ). Fine d) (λ u d m e f. stays-fit d m f e) tt
-    (make (k .identity) (k .medium) .dev) (k .medium) es (fresh-fits k ok)
+    subst Fit (sym (born-fresh k ok)) (fit-of _ (fits-fresh (k .identity) _ (k .medium) (s .laid) (s .plain) (s .numbered)))
 
 pub reached : Reached
-reached k ok es = (fits-of _ _ (all-fit k ok es), together k ok es .identity, together k ok es .blocks)
+unfolding lived born
+reached k ok es = (fits-of _ (always Fit (λ w e f. stays-fit w f e) (born k) es (born-fits k ok)), together k ok es .identity, same-parts k ok es)
 
 -- ---- recovery can be had
 
-three-acks : (d : Device) (m : List ℕ) (e f g : Event) (d₁ d₂ d₃ : Device) (x y z : List ℕ)
-    → step d m e ≡ out Ack d₁ m x → step d₁ m f ≡ out Ack d₂ m y → step d₂ m g ≡ out Ack d₃ m z
-    → answers (run d m (e ∷ f ∷ g ∷ []) .replies) ≡ (Ack ∷ Ack ∷ Ack ∷ [])
+three-acks : (w : World) (e f g : Event) (w₁ w₂ w₃ : World) (x y z : List ℕ)
+    → step w e ≡ out Ack w₁ x → step w₁ f ≡ out Ack w₂ y → step w₂ g ≡ out Ack w₃ z
+    → answers (run w (e ∷ f ∷ g ∷ []) .replies) ≡ (Ack ∷ Ack ∷ Ack ∷ [])
 unfolding run answers
-three-acks d m e f g d₁ d₂ d₃ x y z e₁ e₂ e₃ = rw (e₁, e₂, e₃)
+three-acks w e f g w₁ w₂ w₃ x y z e₁ e₂ e₃ = rw (e₁, e₂, e₃)
 
--- what an event leaves fits again
-pub fits-after : (d d′ : Device) (m b : List ℕ) (e : Event) → fits (d .identity) (d .state) ≡ true → step d m e ≡ out Ack d′ m b → fits (d′ .identity) (d′ .state) ≡ true
-fits-after d d′ m b e f h = fits-of _ _ (subst (λ (o : Out). Fine (o .dev)) h (stays-fit d m (fit-of _ _ f) e))
-
-recovers : (d : Device) (m : List ℕ) → fits (d .identity) (d .state) ≡ true → d .state .configured ≡ true
+recovers : (w : World) → fitting w ≡ true → w .dev .state .configured ≡ true
     → (order : Bool) (x y z : List ℕ) → 64 ≤ length x → 64 ≤ length y → 64 ≤ length z
-    → answers (run d m (recovery order x y z) .replies) ≡ (Ack ∷ Ack ∷ Ack ∷ [])
+    → answers (run w (recovery order x y z) .replies) ≡ (Ack ∷ Ack ∷ Ack ∷ [])
 unfolding recovery dropped droppedState haltIn haltOut withHalts
-recovers d m f c true x y z hx hy hz =
-    let e₁ = resets d m f c x hx in
-    let f₁ = fits-after d _ m x _ f e₁ in
-    let e₂ = clears-in _ m f₁ refl y hy in
-    let f₂ = fits-after _ _ m y _ f₁ e₂ in
-    three-acks d m _ _ _ _ _ _ x y z e₁ e₂ (clears-out _ m f₂ refl z hz)
-recovers d m f c false x y z hx hy hz =
-    let e₁ = resets d m f c x hx in
-    let f₁ = fits-after d _ m x _ f e₁ in
-    let e₂ = clears-out _ m f₁ refl y hy in
-    let f₂ = fits-after _ _ m y _ f₁ e₂ in
-    three-acks d m _ _ _ _ _ _ x y z e₁ e₂ (clears-in _ m f₂ refl z hz)
+recovers w f c true x y z hx hy hz =
+    let e₁ = resets w f c x hx in
+    let f₁ = fits-after w _ x _ f e₁ in
+    let e₂ = clears-in _ f₁ refl y hy in
+    let f₂ = fits-after _ _ y _ f₁ e₂ in
+    three-acks w _ _ _ _ _ _ x y z e₁ e₂ (clears-out _ f₂ refl z hz)
+recovers w f c false x y z hx hy hz =
+    let e₁ = resets w f c x hx in
+    let f₁ = fits-after w _ x _ f e₁ in
+    let e₂ = clears-out _ f₁ refl y hy in
+    let f₂ = fits-after _ _ y _ f₁ e₂ in
+    three-acks w _ _ _ _ _ _ x y z e₁ e₂ (clears-in _ f₂ refl z hz)
 
 pub can-recover : CanRecover
-can-recover k ok es c order x y z hx hy hz =
-    recovers (lived k es .dev) (lived k es .medium) (reached k ok es .0) (together k ok es .configured ∙ c) order x y z hx hy hz
+can-recover k ok es c order x y z hx hy hz = recovers (lived k es .world) (reached k ok es .0) (together k ok es .configured ∙ c) order x y z hx hy hz
 
--- ---- where a wrapper is due, exactly
+-- ---- a wrapper is due
 
--- a bulk-out packet whose checks pass
-out-passed : (d : Device) (m p : List ℕ) → fits (d .identity) (d .state) ≡ true → length m ≡ 512 * d .state .unit .blocks → length p ≤ 64 → d .state .configured ≡ true
-    → step d m (bulkOut p) ≡ unlent (packetOut d m p)
-unfolding step onBulkOut checks check where-lent judgedOut if_then_else_ inOrder
-out-passed d m p f n h c = simp (f, eq-eqb (length m) (512 * d .state .unit .blocks) n, le-leb (length p) 64 h, c)
+-- a packet whose checks pass
+out-passed : (w : World) (p : List ℕ) → fitting w ≡ true → mediumFits (w .units) (w .medium) ≡ true → length p ≤ 64 → w .dev .state .configured ≡ true
+    → step w (bulkOut p) ≡ packetOut w p
+unfolding checks effect
+out-passed w p f n h c = passes w (bulkOut p) (record { fit = f; medium = n; buffer = refl; packet = le-leb (length p) 64 h; setup = refl; configured = c })
 
--- a wrapper that is accepted
-pub taken : (d : Device) (m w : List ℕ) (p : Plan) → Accepts d m w p → step d m (bulkOut w) ≡ out Ack (withState d (begun (headerOf w) p (d .state))) m []
-unfolding packetOut outStage onWrapper wrapperOf accepted
-taken d m w p a =
-    out-passed d m w (a .fit) (a .medium) (let r = readable-long w (both _ _ (a .accepts) .0) in omega arith) (a .due .configured)
-    ∙ ap unlent (
-    if-false _ _ _ (a .due .unhalted)
-    ∙ ap (λ (g : Stage). outStage g d m w) (a .due .ready)
-    ∙ ap (λ (x : Wrapper). onWrapper x d m) (if-true _ _ _ (a .accepts) ∙ ap (Good (headerOf w)) (a .plan))
-    )
+-- an accepted wrapper begins its command
+pub taken : (w : World) (p : List ℕ) (x : Plan) → Accepts w p x → step w (bulkOut p) ≡ onWrapper (Good (headerOf p) x) w
+unfolding packetOut outStage wrapperOf accepted
+taken w p x a =
+    out-passed w p (a .fit) (a .medium) (let r = readable-long p (both _ _ (a .accepts) .0) in omega arith) (a .due .configured)
+    ∙ if-false _ _ _ (a .due .unhalted)
+    ∙ ap (λ (g : Stage). outStage g w p) (a .due .ready)
+    ∙ ap (λ (y : Wrapper). onWrapper y w) (if-true _ _ _ (a .accepts) ∙ ap (Good (headerOf p)) (a .plan))
 
--- Test Unit Ready, announcing 0
+-- Test Unit Ready of unit 0, announcing 0
 abbrev test : List ℕ
 test = cbwSignature ++ zeros 10 ++ 6 ∷ zeros 16
 
-good : goodTest test ≡ true
-unfolding goodTest accepted readable startsWith inRange clear bits headerOf bytesAt value blockLength commandOf look commands zeros if_then_else_ _and_
-good = refl
+good : (n : ℕ) → 1 ≤ n → goodTest n test ≡ true
+unfolding computes
+good n h = simp (lt-ltb 0 n h)
 
--- it is accepted, has no data, and the status is due at once
-after-test : Device → Device
-after-test d = withState d (moved (d .state) noSense (d .state .link .haltin) (d .state .link .haltout) (task (StatusDue Passed) 0 0 0))
+-- it has no data, and the status is due at once
+abbrev after : World → World
+after w = onWrapper (Good (headerOf test) Nothing) w .world
 
-takes : (d : Device) (m : List ℕ) → onWrapper (wrapperOf (d .state .unit .blocks) test) d m ≡ effects Ack (after-test d) m
-unfolding after-test onWrapper wrapperOf accepted readable startsWith inRange clear bits headerOf bytesAt value blockLength commandOf look commands zeros begun begunBy hostOf hasOf caseOf counted meeting sensed senseOf haltsIn haltsOut staged firstStage ownStatus if_then_else_ _and_
-takes d m = ap (λ (p : Plan). onWrapper (Good (headerOf test) p) d m) (test-has-nothing (d .state .unit .blocks))
+-- the collector after it: as before, but for the task
+record StatusNext (w w′ : World) : Type 0 where
+  configured : w′ .dev .state .configured ≡ w .dev .state .configured
+  haltout : w′ .dev .state .link .haltout ≡ w .dev .state .link .haltout
+  stage : w′ .dev .state .link .task .stage ≡ StatusDue Passed
+  parts : cleared (w′ .units) ≡ cleared (w .units)
+  medium : w′ .medium ≡ w .medium
 
-two : (d : Device) (m : List ℕ) (e f : Event) (d₁ : Device) (x y : List ℕ) (o : Out) → step d m e ≡ out Ack d₁ m x → step d₁ m f ≡ o → o .answer ≡ Nak
-    → answers (run d m (e ∷ f ∷ []) .replies) ≡ (Ack ∷ Nak ∷ [])
+status-next : (w : World) → StatusNext w (after w)
+unfolding computes
+status-next w = record { configured = refl; haltout = refl; stage = refl; parts = cleared-sensed (w .units) 0 _; medium = refl }
+
+acks-test : (w : World) → onWrapper (Good (headerOf test) Nothing) w ≡ out Ack (after w) []
+unfolding onWrapper
+acks-test w = refl
+
+two : (w : World) (e f : Event) (w₁ : World) (x : List ℕ) → step w e ≡ out Ack w₁ x → step w₁ f .answer ≡ Nak → answers (run w (e ∷ f ∷ []) .replies) ≡ (Ack ∷ Nak ∷ [])
 unfolding run answers
-two d m e f d₁ x y o e₁ e₂ n = rw (e₁, e₂, n)
+two w e f w₁ x e₁ n = rw (e₁, n)
 
 test-length : length test ≡ 31
 unfolding zeros
 test-length = refl
 
 -- with the status due, bulk-out naks
-naks : (d : Device) (m : List ℕ) → d .state .link .haltout ≡ false → packetOut (after-test d) m test .answer ≡ Nak
-unfolding after-test moved packetOut outStage
-naks d m o = ap (λ (r : Effect). r .answer) (if-false _ _ _ o)
+naks : (w : World) → w .dev .state .link .haltout ≡ false → w .dev .state .link .task .stage ≡ StatusDue Passed → packetOut w test .answer ≡ Nak
+unfolding packetOut outStage
+naks w o e = ap (λ (r : Out). r .answer) (if-false _ _ _ o ∙ ap (λ (g : Stage). outStage g w test) e)
 
-kept : (d : Device) (m : List ℕ) → length m ≡ 512 * d .state .unit .blocks → length m ≡ 512 * after-test d .state .unit .blocks
-unfolding after-test moved
-kept d m n = n
+pub same-medium : (w w′ : World) → cleared (w′ .units) ≡ cleared (w .units) → w′ .medium ≡ w .medium → mediumFits (w .units) (w .medium) ≡ true → mediumFits (w′ .units) (w′ .medium) ≡ true
+unfolding mediumFits
+same-medium w w′ e m h = simp (same-total (w′ .units) (w .units) e, m) h
 
-still : (d : Device) → d .state .configured ≡ true → after-test d .state .configured ≡ true
-unfolding after-test moved
-still d c = c
-
-is-due : (d : Device) (m : List ℕ) → fits (d .identity) (d .state) ≡ true → length m ≡ 512 * d .state .unit .blocks → IsDue d → WrapperDue d m
-unfolding WrapperDue packetOut outStage
-is-due d m f n u =
+is-due : (w : World) → fitting w ≡ true → mediumFits (w .units) (w .medium) ≡ true → IsDue (w .dev) → WrapperDue w
+unfolding WrapperDue goodTest zeros
+is-due w f n u =
     let short : length test ≤ 64 = omega (arith, test-length) in
-    let e₁ : step d m (bulkOut test) ≡ out Ack (after-test d) m [] =
-    out-passed d m test f n short (u .configured)
-    ∙ ap unlent (if-false _ _ _ (u .unhalted) ∙ ap (λ (g : Stage). outStage g d m test) (u .ready) ∙ takes d m) in
-    let f₁ = fits-after d (after-test d) m [] (bulkOut test) f e₁ in (
-      test,
-      good,
-      two d m (bulkOut test) (bulkOut test) (after-test d) [] [] _ e₁ (out-passed (after-test d) m test f₁ (kept d m n) short (still d (u .configured))) (naks d m (u .unhalted)),
-    )
+    let g = good (length (w .units)) (laid-some (w .units) (fit-of w f .laid)) in
+    let e₁ = taken w test Nothing (record { fit = f; medium = n; due = u; accepts = both _ _ g .0; plan = test-has-nothing _ }) ∙ acks-test w in
+    let s = status-next w in
+    let f₁ = fits-after w (after w) [] (bulkOut test) f e₁ in
+    let e₂ = out-passed (after w) test f₁ (same-medium w (after w) (s .parts) (s .medium) n) short (s .configured ∙ u .configured) in
+    (test, g, two w (bulkOut test) (bulkOut test) (after w) [] e₁ (ap (λ (o : Out). o .answer) e₂ ∙ naks (after w) (s .haltout ∙ u .unhalted) (s .stage)))
 
--- the medium keeps the size that the record has
-whole : (k : Making) → make (k .identity) (k .medium) .answer ≡ Ack → (es : List Event) → length (lived k es .medium) ≡ 512 * lived k es .dev .state .unit .blocks
-unfolding mediumServed
+-- the medium keeps the size that the table has
+whole : (k : Making) → Makes k → (es : List Event) → mediumFits (lived k es .world .units) (lived k es .world .medium) ≡ true
+unfolding mediumFits
 whole k ok es =
-    let s = eqb-true (length (k .medium) % 512) 0 (both _ _ (sound (k .identity) (k .medium) ok .served) .0) in
-    let e = same-size k ok es in
-    let b = together k ok es .blocks in
-    omega arith
+    let s = sound (k .identity) (k .medium) ok in
+    simp (same-total (lived k es .world .units) (make (k .identity) (k .medium) .units) (same-parts k ok es ∙ sym (s .plain)), same-size k ok es) (s .whole)
 
 pub due-exactly : DueExactly
-due-exactly k ok es = (due (lived k es .dev) (lived k es .medium), is-due (lived k es .dev) (lived k es .medium) (reached k ok es .0) (whole k ok es))
+due-exactly k ok es = (due (lived k es .world), is-due (lived k es .world) (reached k ok es .0) (whole k ok es))

@@ -1,9 +1,8 @@
--- What holds of each sense that is made holds of every sense that a record holds, the unit's and one that a reply found, whatever the events. Assumes nothing.
-use Prim.Native.Nat.{ℕ}
+-- What holds of each sense that is made holds of every sense that a collector holds, its units' and one that a reply found, whatever the events. Assumes nothing.
+use Prim.Native.Nat.{ℕ, zero, suc}
 use mathlib.Core.Path.{sym, subst}
-use mathlib.Core.Bool.{Bool}
-use mathlib.Core.List.{List, []}
-use Rattle.wire.proofs.Cases.{by-if}
+use mathlib.Core.List.{List, [], _∷_}
+use lib.ListN.{set}
 use Rattle.scsi.specs.Sense.{noSense, dataPhase}
 use Rattle.scsi.specs.declared.command.Plan.{Plan}
 use Rattle.scsi.specs.declared.command.Plan.the-variants.{Failed, Nothing, Reply, Read, Write}
@@ -17,33 +16,24 @@ use Rattle.cases.specs.declared.Transfer.{Transfer}
 use Rattle.cases.specs.declared.Transfer.the-variants.{None, In, Out}
 use Rattle.cases.specs.declared.Ending.{Ending}
 use Rattle.cases.specs.declared.Ending.the-variants as ending
-use Rattle.bot.specs.declared.csw.Status.{Status}
-use Rattle.bot.specs.declared.csw.Status.the-variants as status
-use Rattle.usb.specs.Request.{requestOf}
-use Rattle.usb.specs.declared.descriptor.Identity.{Identity}
 use Rattle.machine.specs.declared.record.Stage.{Stage}
 use Rattle.machine.specs.declared.record.Stage.the-variants.{Ready, DataOut, DataIn, ReplyIn, StatusDue}
 use Rattle.machine.specs.declared.record.Task.{Task}
 use Rattle.machine.specs.declared.record.LogicalUnit.{LogicalUnit}
-use Rattle.machine.specs.declared.record.State.{State}
 use Rattle.machine.specs.declared.record.Device.{Device}
-use Rattle.machine.specs.declared.wrapper.Wrapper.{Wrapper}
-use Rattle.machine.specs.declared.wrapper.Wrapper.the-variants.{Broken, Good}
-use Rattle.machine.specs.declared.answer.Answer.the-variants.{Ack}
-use Rattle.machine.specs.Record.{fresh, noDevice, withHalts, droppedState, dropped, moved}
-use Rattle.machine.specs.Making.{Made, mediumServed, make}
-use Rattle.machine.specs.Fits.{numberFits}
-use Rattle.machine.specs.Outcome.{Reaction, reacts, Effect}
-use Rattle.machine.specs.Control.{reset, perform}
-use Rattle.machine.specs.Wrapper.{accepted, wrapperOf}
-use Rattle.machine.specs.Begin.{senseOf, replyOf, dataStage, firstStage, sensed, staged, begunBy, begun}
-use Rattle.machine.specs.Bulk.{lockedState, onWrapper, cutShort, gathered, nextOut, storedBlock, onData, outStage, packetOut, handedOut, onAsk, afterStatus, onStatus, inStage, packetIn, cutState, gatheredState, handedState, nextIn, storedState}
-use Rattle.machine.specs.Machine.{Event, busReset, control, bulkOut, bulkIn, Verdict, judged, judgedOut, onReset, onControl, onBulkOut, onBulkIn, resetInputs, controlInputs, outInputs, inInputs, step}
+use Rattle.machine.specs.Units.{Table, unitAt, withSense}
+use Rattle.machine.specs.Record.{fresh, droppedState, moved}
+use Rattle.machine.specs.World.{World, world, dropped}
+use Rattle.machine.specs.Making.{oneUnit}
+use Rattle.machine.specs.Begin.{senseOf, replyOf, dataStage, firstStage, sensed, staged, begunBy, begun, begunUnit}
+use Rattle.machine.specs.Bulk.{onWrapper, cutState, cutShort}
+use Rattle.machine.specs.Machine.{Event, step}
 use Rattle.machine.specs.Tally.{Making}
-use Rattle.machine.specs.Claim.{lived}
-use Rattle.machine.proofs.Along.{along}
-use Rattle.machine.proofs.Judge.{judge}
-use Rattle.machine.proofs.Requests.{Did, answered, changed, drops, performs}
+use Rattle.machine.specs.Claim.{born, lived}
+use Rattle.machine.proofs.Along.{always}
+use Rattle.machine.proofs.StepLaws.{Next, same, status-next, block-next, byte-next, reply-next, Later, on, over, sensedAt, Changed, moves, drops, begins, cuts, changes}
+use Rattle.machine.proofs.Tables.{unit-cleared, cleared-sensed, same-blocks}
+use Rattle.machine.proofs.Parts.{by-making}
 
 abbrev ReplySense : (Sense → Type 0) → replies.Reply → Type 0
 ReplySense P (reply.Sense s) = P s
@@ -60,15 +50,29 @@ StageSense P (ReplyIn r place left) = ReplySense P r
 StageSense P (StatusDue x) = Unit {0}
 
 -- It may speak of the unit's number of blocks.
-pub record Senses (P : ℕ → Sense → Type 0) (s : State) : Type 0 where
-  pub unit : P (s .unit .blocks) (s .unit .sense)
-  pub stage : StageSense (P (s .unit .blocks)) (s .link .task .stage)
+abbrev UnitSense : (ℕ → Sense → Type 0) → LogicalUnit → Type 0
+UnitSense P u = P (u .blocks) (u .sense)
+
+abbrev TaskSense : (ℕ → Sense → Type 0) → Table → Task → Type 0
+TaskSense P us t = StageSense (P (unitAt us (t .lun) .blocks)) (t .stage)
+
+pub record Senses (P : ℕ → Sense → Type 0) (w : World) : Type 0 where
+  pub units : (n : ℕ) → UnitSense P (unitAt (w .units) n)
+  pub stage : TaskSense P (w .units) (w .dev .state .link .task)
 
 -- Of no sense, of data-out of a wrong length, and of a failed command.
 pub record Makes (P : ℕ → Sense → Type 0) : Type 0 where
   pub none : (blocks : ℕ) → P blocks noSense
   pub phase : (blocks : ℕ) → P blocks dataPhase
   pub fails : (blocks : ℕ) → Failing (P blocks) blocks
+
+-- what holds of every unit holds where one is put in the table
+each-set : (Q : LogicalUnit → Type 0) (us : Table) (i : ℕ) (u : LogicalUnit) → ((n : ℕ) → Q (unitAt us n)) → Q u → (n : ℕ) → Q (unitAt (set us i u) n)
+each-set Q [] i u h q n = h n
+each-set Q (x ∷ us) zero u h q zero = q
+each-set Q (x ∷ us) zero u h q (suc n) = h (suc n)
+each-set Q (x ∷ us) (suc i) u h q zero = h zero
+each-set Q (x ∷ us) (suc i) u h q (suc n) = each-set Q us i u (λ j. h (suc j)) q n
 
 module _ (P : ℕ → Sense → Type 0) (made : Makes P) where
   -- ---- an accepted wrapper
@@ -81,7 +85,7 @@ module _ (P : ℕ → Sense → Type 0) (made : Makes P) where
   left-sense n (Read block count) h = made .none n
   left-sense n (Write block count) h = made .none n
 
-  reply-sense : (k : ReplyKind) (u : LogicalUnit) → P (u .blocks) (u .sense) → ReplySense (P (u .blocks)) (replyOf k u)
+  reply-sense : (k : ReplyKind) (u : LogicalUnit) → UnitSense P u → ReplySense (P (u .blocks)) (replyOf k u)
   unfolding replyOf
   reply-sense kind.Sense u h = h
   reply-sense kind.Inquiry u h = tt
@@ -89,7 +93,7 @@ module _ (P : ℕ → Sense → Type 0) (made : Makes P) where
   reply-sense kind.ModeSense u h = tt
   reply-sense kind.Capacity u h = tt
 
-  data-sense : (p : Plan) (u : LogicalUnit) → P (u .blocks) (u .sense) → StageSense (P (u .blocks)) (dataStage p u)
+  data-sense : (p : Plan) (u : LogicalUnit) → UnitSense P u → StageSense (P (u .blocks)) (dataStage p u)
   unfolding dataStage
   data-sense (Failed s) u h = tt
   data-sense Nothing u h = tt
@@ -97,7 +101,7 @@ module _ (P : ℕ → Sense → Type 0) (made : Makes P) where
   data-sense (Read block count) u h = tt
   data-sense (Write block count) u h = tt
 
-  first-sense : (e : Ending) (t : Transfer) (p : Plan) (u : LogicalUnit) → P (u .blocks) (u .sense) → StageSense (P (u .blocks)) (staged e t p u)
+  first-sense : (e : Ending) (t : Transfer) (p : Plan) (u : LogicalUnit) → UnitSense P u → StageSense (P (u .blocks)) (staged e t p u)
   unfolding staged firstStage
   first-sense ending.Command None p u h = tt
   first-sense ending.Command (In n) p u h = data-sense p u h
@@ -109,116 +113,50 @@ module _ (P : ℕ → Sense → Type 0) (made : Makes P) where
   sensed-sense n ending.Command p found f h = left-sense n p f
   sensed-sense n ending.PhaseError p found f h = h
 
-  abbrev WrapperSense : ℕ → Wrapper → Type 0
-  WrapperSense n Broken = Unit {0}
-  WrapperSense n (Good h p) = PlanSense (P n) p
-
-  wrapper-sense : (n : ℕ) (p : List ℕ) → WrapperSense n (wrapperOf n p)
-  unfolding wrapperOf
-  wrapper-sense n p = by-if (WrapperSense n) (accepted p) _ _ (λ _. plan-sense (P n) _ n (made .fails n)) (λ _. tt)
-
-  -- ---- each way of changing the record
-
-  dropped-senses : (s : State) (a : ℕ) (c hi ho : Bool) → Senses P (droppedState s a c hi ho)
-  unfolding droppedState
-  dropped-senses s a c hi ho = record { unit = made .none _; stage = tt }
-
-  moves : (s : State) (sn : Sense) (hi ho : Bool) (t : Task) → P (s .unit .blocks) sn → StageSense (P (s .unit .blocks)) (t .stage) → Senses P (moved s sn hi ho t)
-  unfolding moved
-  moves s sn hi ho t u g = record { unit = u; stage = g }
-
-  halts : (s : State) (hi ho k : Bool) → Senses P s → Senses P (withHalts s hi ho k)
-  unfolding withHalts
-  halts s hi ho k h = record { unit = h .unit; stage = h .stage }
-
   -- ---- one event
 
-  module _ (d : Device) (m : List ℕ) (h : Senses P (d .state)) where
-    abbrev s : State
-    s = d .state
+  next : (Q : Sense → Type 0) (g g′ : Stage) → Next g g′ → StageSense Q g → StageSense Q g′
+  next Q g g′ same h = h
+  next Q g g′ (status-next x) h = tt
+  next Q g g′ (block-next block left held) h = tt
+  next Q g g′ (byte-next place left) h = tt
+  next Q g g′ (reply-next r place left place′ left′ e) h = subst (StageSense Q) e h
 
-    abbrev n : ℕ
-    n = s .unit .blocks
+  later : (us : Table) (t t′ : Task) → Later t t′ → TaskSense P us t → TaskSense P us t′
+  later us t t′ (on g r n) h = next _ _ g n h
+  later us t t′ over h = tt
 
-    abbrev Kept : Reaction → Type 0
-    Kept r = Senses P (r .dev .state)
+  -- one unit has another sense
+  senses-at : (d : Device) (us : Table) (n : ℕ) (s : Sense) (m : List ℕ) → ((i : ℕ) → UnitSense P (unitAt us i)) → P (unitAt us n .blocks) s → TaskSense P us (d .state .link .task)
+      → Senses P (world d (sensedAt us n s) m)
+  unfolding withSense
+  senses-at d us n s m h q t = record {
+    units = each-set (UnitSense P) us n _ h q;
+    stage = subst (λ (k : ℕ). StageSense (P k) (d .state .link .task .stage)) (sym (same-blocks _ us (cleared-sensed us n s) _)) t;
+  }
 
-    abbrev Left : Effect → Type 0
-    Left r = Senses P (r .dev .state)
+  keeps : (w v : World) → Changed w v → Senses P w → Senses P v
+  unfolding dropped droppedState onWrapper begun begunBy begunUnit moved cutShort cutState
+  keeps w v (moves s p m t) h = record { units = h .units; stage = later (w .units) _ _ t (h .stage) }
+  keeps w v (drops a c hi ho) h =
+      record { units = λ n. subst (UnitSense P) (sym (unit-cleared (w .units) n)) (made .none _); stage = tt }
+  keeps w v (begins c b l) h =
+      senses-at _ (w .units) (c .lun) _ _ (h .units) (sensed-sense _ _ _ _ (plan-sense (P _) b _ (made .fails _)) (h .units _)) (first-sense _ _ _ _ (h .units _))
+  keeps w v (cuts m) h = senses-at _ (w .units) _ dataPhase m (h .units) (made .phase _) tt
 
-    module _ (b : List ℕ) where
-      requests : (r : Reaction) → Did d b r → Kept r
-      unfolding dropped
-      requests r (answered a x) = h
-      requests r (changed g u t) = record { unit = subst (λ (x : LogicalUnit). P (x .blocks) (x .sense)) (sym u) (h .unit); stage = subst (λ (x : LogicalUnit). StageSense (P (x .blocks)) (g .link .task .stage)) (sym u) (subst (λ (x : Task). StageSense (P n) (x .stage)) (sym t) (h .stage)) }
-      requests r (drops a c hi ho) = dropped-senses s a c hi ho
+  pub keeps-senses : (w : World) → Senses P w → (e : Event) → Senses P (step w e .world)
+  keeps-senses w h e = keeps w _ (changes w e) h
 
-      asks : (x : List ℕ) (place left : ℕ) (more : Stage) → StageSense (P n) more → Kept (onAsk d x place left more b)
-      unfolding onAsk handedOut handedState nextIn
-      asks x place left more g = by-if Kept _ _ _ (λ _. h) (λ _. moves s _ _ _ _ (h .unit) (by-if (StageSense (P n)) _ _ _ (λ _. tt) (λ _. g)))
+  -- ---- what a making leaves
 
-      after : (x : Status) → Senses P (afterStatus x s)
-      unfolding afterStatus lockedState
-      after status.Passed = moves s _ _ _ _ (h .unit) tt
-      after status.Failed = moves s _ _ _ _ (h .unit) tt
-      after status.PhaseError = halts _ _ _ _ (moves s _ _ _ _ (h .unit) tt)
+  one : (n i : ℕ) → UnitSense P (unitAt (oneUnit n) i)
+  one n zero = made .none n
+  one n (suc i) = made .none 0
 
-      ins : (g : Stage) → StageSense (P n) g → Kept (inStage g d m b)
-      unfolding inStage onStatus
-      ins Ready u = h
-      ins (DataOut block left held) u = h
-      ins (DataIn place left) u = asks _ place left _ tt
-      ins (ReplyIn r place left) u = asks _ place left _ u
-      ins (StatusDue x) u = after x
-
-    module _ (p : List ℕ) where
-      wrappers : (w : Wrapper) → WrapperSense n w → Left (onWrapper w d m)
-      unfolding onWrapper lockedState begun begunBy
-      wrappers Broken f = halts s _ _ _ h
-      wrappers (Good c x) f = moves s _ _ _ _ (sensed-sense n _ x _ f (h .unit)) (first-sense _ _ x (s .unit) (h .unit))
-
-      datas : (block left held : ℕ) → Left (onData d m block left held p)
-      unfolding onData cutShort gathered storedBlock cutState gatheredState storedState nextOut
-      datas block left held =
-          by-if Left _ _ _
-          (λ _. by-if Left _ _ _ (λ _. moves s _ _ _ _ (h .unit) tt) (λ _. moves s _ _ _ _ (h .unit) (by-if (StageSense (P n)) _ _ _ (λ _. tt) (λ _. tt))))
-          (λ _. moves s _ _ _ _ (made .phase n) tt)
-
-      outs : (g : Stage) → Left (outStage g d m p)
-      unfolding outStage
-      outs Ready = wrappers (wrapperOf n p) (wrapper-sense n p)
-      outs (DataOut block left held) = by-if Left _ _ _ (λ _. h) (λ _. datas block left held)
-      outs (DataIn place left) = h
-      outs (ReplyIn r place left) = h
-      outs (StatusDue x) = h
-
-    pub keeps-senses : (e : Event) → Senses P (step d m e .dev .state)
-    unfolding step onReset onControl onBulkOut onBulkIn judged judgedOut packetOut packetIn reset dropped
-    keeps-senses busReset =
-        judge (λ (v : Verdict). Kept (judged v d [] (reacts Ack (reset d) []))) d resetInputs (λ a x. h) (λ _. dropped-senses s _ _ _ _)
-    keeps-senses (control q b) =
-        judge (λ (v : Verdict). Kept (judged v d b (perform (requestOf q) d b))) d (controlInputs q b) (λ a x. h) (λ _. requests b _ (performs d b (requestOf q)))
-    keeps-senses (bulkOut p) =
-        judge (λ (v : Verdict). Left (judgedOut v d m (packetOut d m p))) d (outInputs m p) (λ a x. h)
-        (λ _. by-if Left (s .link .haltout) _ _ (λ _. h) (λ _. outs p (s .link .task .stage)))
-    keeps-senses (bulkIn b) =
-        judge (λ (v : Verdict). Kept (judged v d b (packetIn d m b))) d (inInputs m b) (λ a x. h)
-        (λ _. by-if Kept (s .link .haltin) _ _ (λ _. h) (λ _. ins b (s .link .task .stage) (h .stage)))
-
-  -- ---- the record that making leaves
-
-  fresh-senses : (i : Identity) (n : ℕ) → Senses P (fresh i n .state)
+  pub made-senses : (k : Making) → Senses P (born k)
   unfolding fresh
-  fresh-senses i n = record { unit = made .none n; stage = tt }
+  made-senses k = by-making (Senses P) k (λ i n. record { units = one n; stage = tt })
 
-  pub made-senses : (i : Identity) (m : List ℕ) → Senses P (make i m .dev .state)
-  unfolding make noDevice
-  made-senses i m = by-if Fine (mediumServed m) _ _ (λ _. by-if Fine (numberFits (i .number)) _ _ (λ _. fresh-senses _ _) (λ _. fresh-senses _ _)) (λ _. fresh-senses _ _)
-    where
-      Fine : Made → Type 0
-      Fine r = Senses P (r .dev .state)
-
-  pub lived-senses : (k : Making) (es : List Event) → Senses P (lived k es .dev .state)
+  pub lived-senses : (k : Making) (es : List Event) → Senses P (lived k es .world)
   unfolding lived
-  lived-senses k es =
-      along (λ (l : Unit {0}) e a. l) (λ l d m. Senses P (d .state)) (λ l d m e h. keeps-senses d m h e) tt _ (k .medium) es (made-senses (k .identity) (k .medium))
+  lived-senses k es = always (Senses P) (λ w e h. keeps-senses w h e) (born k) es (made-senses k)

@@ -20,7 +20,7 @@ use Rattle.bot.specs.declared.cbw.Header.{Header}
 use Rattle.machine.specs.declared.record.Stage.{Stage}
 use Rattle.machine.specs.declared.record.Stage.the-variants.{Ready, DataOut, DataIn, ReplyIn, StatusDue}
 use Rattle.machine.specs.declared.record.LogicalUnit.{LogicalUnit}
-use Rattle.machine.specs.Fits.{blockSize}
+use Rattle.machine.specs.Units.{blockSize}
 use Rattle.machine.specs.Begin.{hostOf, hasOf, firstStage, dataStage, staged}
 use Rattle.machine.specs.Tally.{Tally, idle, writing, writeOf}
 
@@ -32,10 +32,10 @@ Still (DataIn place left) = Unit {0}
 Still (ReplyIn reply place left) = Unit {0}
 Still (StatusDue status) = Unit {0}
 
--- the tally and the first stage of a command
-pub data Begun : Tally → Stage → Type 0 where
-  still : {g : Stage} → Still g → Begun idle g
-  begins : {block count : ℕ} → 1 ≤ count → Begun (writing block count []) (DataOut block count 0)
+-- the tally and the first stage of a command for a unit
+pub data Begun (lun : ℕ) : Tally → Stage → Type 0 where
+  still : {g : Stage} → Still g → Begun lun idle g
+  begins : {block count : ℕ} → 1 ≤ count → Begun lun (writing lun block count []) (DataOut block count 0)
 
 abbrev firstOf : Case → Plan → LogicalUnit → Stage
 firstOf c p u = staged (c .ending) (c .moves) p u
@@ -71,16 +71,16 @@ module _ (h : Header) (block count : ℕ) (u : LogicalUnit) where
   abbrev size : ℕ
   size = blockSize * count
 
-  idle-when : (ltb 0 count and not (h .inward) and leb size (h .announced)) ≡ false → {g : Stage} → Still g → Begun (writeOf h write) g
+  idle-when : (ltb 0 count and not (h .inward) and leb size (h .announced)) ≡ false → {g : Stage} → Still g → Begun (h .lun) (writeOf h write) g
   unfolding writeOf if_then_else_
   idle-when e s = rw e (still s)
 
-  due-when : (ltb 0 count and not (h .inward) and leb size (h .announced)) ≡ true → 1 ≤ count → Begun (writeOf h write) (DataOut block count 0)
+  due-when : (ltb 0 count and not (h .inward) and leb size (h .announced)) ≡ true → 1 ≤ count → Begun (h .lun) (writeOf h write) (DataOut block count 0)
   unfolding writeOf if_then_else_
   due-when e n = rw e (begins n)
 
   abbrev Agrees : Transfer → Transfer → Type 0
-  Agrees host has = Begun (writeOf h write) (firstOf (meeting host has) write u)
+  Agrees host has = Begun (h .lun) (writeOf h write) (firstOf (meeting host has) write u)
 
   -- nothing to write
   none-has : (t : Transfer) → eqb size 0 ≡ true → Agrees t None
@@ -106,21 +106,21 @@ module _ (h : Header) (block count : ℕ) (u : LogicalUnit) where
       (λ o.
       by-if (λ (t : Transfer). Agrees t (Out size)) (eqb (h .announced) 0) None (Out (h .announced))
       (λ z. idle-when (let e : h .announced ≡ 0 = eqb-true _ _ z in simp (lt-ltb 0 count pos, o, lt-leb size (h .announced) (omega arith))) tt)
-      (λ _. by-if (λ (c : Case). Begun (writeOf h write) (firstOf c write u)) (ltb size (h .announced)) _ _
+      (λ _. by-if (λ (c : Case). Begun (h .lun) (writeOf h write) (firstOf c write u)) (ltb size (h .announced)) _ _
       (λ l. due-when (simp (lt-ltb 0 count pos, o, le-leb size (h .announced) (omega (arith, ltb-true size (h .announced) l)))) pos)
-      (λ l. by-if (λ (c : Case). Begun (writeOf h write) (firstOf c write u)) (eqb size (h .announced)) _ _
+      (λ l. by-if (λ (c : Case). Begun (h .lun) (writeOf h write) (firstOf c write u)) (eqb size (h .announced)) _ _
       (λ q. due-when (simp (lt-ltb 0 count pos, o, le-leb size (h .announced) (omega (arith, eqb-true size (h .announced) q)))) pos)
       (λ q. idle-when (simp (lt-ltb 0 count pos, o, lt-leb size (h .announced) (above l q))) tt))))
     where
       above : ltb size (h .announced) ≡ false → eqb size (h .announced) ≡ false → h .announced < size
       above l q = let a = ltb-false size (h .announced) l in let b = eqb-false size (h .announced) q in omega arith
 
-  write-grant : Begun (writeOf h write) (firstOf (caseOf (hostOf h) (hasOf write)) write u)
+  write-grant : Begun (h .lun) (writeOf h write) (firstOf (caseOf (hostOf h) (hasOf write)) write u)
   unfolding caseOf hasOf counted
   write-grant =
       by-if (λ (t : Transfer). Agrees (counted (hostOf h)) t) (eqb size 0) None (Out size) (none-has (counted (hostOf h))) (λ z. some-has (eqb-false size 0 z))
 
-pub grant : (h : Header) (p : Plan) (u : LogicalUnit) → Begun (writeOf h p) (firstOf (caseOf (hostOf h) (hasOf p)) p u)
+pub grant : (h : Header) (p : Plan) (u : LogicalUnit) → Begun (h .lun) (writeOf h p) (firstOf (caseOf (hostOf h) (hasOf p)) p u)
 unfolding writeOf NotWrite
 grant h (Failed s) u = still (staged-still _ _ (Failed s) u tt)
 grant h Nothing u = still (staged-still _ _ Nothing u tt)

@@ -11,9 +11,7 @@ use Rattle.wire.specs.Choice.{if_then_else_}
 use Rattle.wire.proofs.Cases.{both, by-if, if-true, if-false}
 use Rattle.scsi.specs.declared.command.Plan.{Plan}
 use Rattle.scsi.specs.declared.command.Plan.the-variants.{Failed, Nothing, Reply, Read, Write}
-use Rattle.bot.specs.declared.cbw.Header.{Header}
 use Rattle.bot.specs.declared.csw.Status.the-variants.{Passed}
-use Rattle.cases.specs.Cases.{caseOf}
 use Rattle.cases.specs.Claims.{amount, isAfterData, afterData, Follows, no-data, no-match, all-in, all-out}
 use Rattle.cases.specs.declared.Case.{Case}
 use Rattle.cases.specs.declared.Halt.{Halt}
@@ -25,13 +23,16 @@ use Rattle.machine.specs.declared.record.LogicalUnit.{LogicalUnit}
 use Rattle.machine.specs.declared.record.Task.{Task}
 use Rattle.machine.specs.declared.record.State.{State}
 use Rattle.machine.specs.declared.record.Device.{Device}
+use Rattle.machine.specs.declared.ask.Source.{Source}
+use Rattle.machine.specs.declared.ask.Asked.{Asked}
 use Rattle.machine.specs.Record.{moved}
-use Rattle.machine.specs.Fits.{taskFits, outFits, inFits}
-use Rattle.machine.specs.Outcome.{Reaction, Effect}
-use Rattle.machine.specs.Begin.{hostOf, hasOf, dataStage, firstStage, staged, begunBy, begun}
-use Rattle.machine.specs.Bulk.{onward, haltAtEnd, nextIn, handedState, handedOut, onAsk, inStage, packetIn, nextOut, storedState, storedBlock, gatheredState, gathered, onData, outStage, packetOut}
+use Rattle.machine.specs.Fits.{stageFits, outFits, inFits}
+use Rattle.machine.specs.World.{World, Out, UnitOut, inUnit}
+use Rattle.machine.specs.Begin.{hasOf, dataStage, firstStage, staged, begunBy, begun}
+use Rattle.machine.specs.Bulk.{onward, haltAtEnd, nextOut, storedState, storedBlock, gatheredState, gathered, onData, outStage, packetOut, nextIn, handedState, nextPacket, askStage, ask, deliver, packetIn}
 use Rattle.machine.specs.Halts.{due, residueAtEnd, moves, isSending, isTaking, isStatusDue, GoesOn, HaltAfterData}
-use Rattle.machine.proofs.Reach.{Fit, fit-of, case-follows}
+use Rattle.machine.proofs.Fit.{Fit, fit-of, stage-fits}
+use Rattle.machine.proofs.Reach.{case-follows}
 
 -- ---- at the wrapper
 
@@ -66,8 +67,8 @@ by-case p u a c (all-out l) q = after _ a (amount (hasOf p)) ∙ over a (amount 
 -- ---- a packet of data
 
 -- number 10: no more is due than the residue
-due-fits : (blocks : ℕ) (g : Stage) (a r : ℕ) → taskFits blocks g a r ≡ true → due g ≤ r
-unfolding due taskFits outFits inFits
+due-fits : (blocks : ℕ) (g : Stage) (a r : ℕ) → stageFits blocks g a r ≡ true → due g ≤ r
+unfolding due stageFits outFits inFits
 due-fits blocks Ready a r e = omega arith
 due-fits blocks (DataOut block left held) a r e = leb-true _ _ (both _ _ (both _ _ (both _ _ (both _ _ e .1) .1) .1) .0)
 due-fits blocks (DataIn place left) a r e = leb-true _ _ (both _ _ (both _ _ e .1) .0)
@@ -120,52 +121,57 @@ module _ (s : State) where
 
 -- ---- the claim
 
-module _ (d : Device) (m : List ℕ) (f : Fit (d .identity) (d .state)) where
+module _ (w : World) (f : Fit w) where
   abbrev s : State
-  s = d .state
+  s = w .dev .state
 
-  fitting : due (s .link .task .stage) ≤ s .link .task .residue
-  fitting = due-fits _ _ _ _ (f .task)
+  enough : due (s .link .task .stage) ≤ s .link .task .residue
+  enough = due-fits _ _ _ _ (stage-fits (w .units) (s .link .task) (f .task) _ refl)
 
-  abbrev InGoes : Reaction → Type 0
-  InGoes r = GoesOn (s .link .task) (r .dev .state .link .task) (r .dev .state .link .haltin)
+  abbrev Sent : List ℕ → Asked → Type 0
+  Sent b a = GoesOn (s .link .task) (deliver a w b .world .dev .state .link .task) (deliver a w b .world .dev .state .link .haltin)
 
-  abbrev OutGoes : Effect → Type 0
-  OutGoes r = GoesOn (s .link .task) (r .dev .state .link .task) (r .dev .state .link .haltout)
+  abbrev Left : Device → Type 0
+  Left d = GoesOn (s .link .task) (d .state .link .task) (d .state .link .haltout)
 
-  asked : (x : List ℕ) (place left : ℕ) (g : Stage) (b : List ℕ) → s .link .haltin ≡ false → due (s .link .task .stage) ≡ left → 0 < left → due g ≡ left - 64 → isStatusDue g ≡ false
-      → InGoes (onAsk d x place left g b)
-  unfolding onAsk handedOut
-  asked x place left g b h e p z n =
-      by-if InGoes (eqb left 0) _ _ (λ y. let k = eqb-true left 0 y in absurd (omega arith)) (λ _. handed s left g h e (let l = fitting in omega arith) z n)
+  asked : (x : Source) (left : ℕ) (g : Stage) (b : List ℕ) → s .link .haltin ≡ false → due (s .link .task .stage) ≡ left → 0 < left → due g ≡ left - 64 → isStatusDue g ≡ false
+      → Sent b (nextPacket s left x g)
+  unfolding nextPacket deliver
+  asked x left g b h e p z n =
+      by-if (Sent b) (eqb left 0) _ _ (λ y. let k = eqb-true left 0 y in absurd (omega arith)) (λ _. handed s left g h e (let l = enough in omega arith) z n)
 
-  sending : (b : List ℕ) → s .link .haltin ≡ false → (g : Stage) → s .link .task .stage ≡ g → isSending g ≡ true → InGoes (inStage g d m b)
-  unfolding inStage isSending due isStatusDue
+  sending : (b : List ℕ) → s .link .haltin ≡ false → (g : Stage) → s .link .task .stage ≡ g → isSending g ≡ true → Sent b (askStage g s)
+  unfolding askStage isSending due isStatusDue
   sending b h Ready e q = absurd (true≢false (sym q))
   sending b h (DataOut block left held) e q = absurd (true≢false (sym q))
-  sending b h (DataIn place left) e q = asked m place left _ b h (ap due e) (ltb-true 0 left q) refl refl
-  sending b h (ReplyIn r place left) e q = asked _ place left _ b h (ap due e) (ltb-true 0 left q) refl refl
+  sending b h (DataIn place left) e q = asked _ left _ b h (ap due e) (ltb-true 0 left q) refl refl
+  sending b h (ReplyIn r place left) e q = asked _ left _ b h (ap due e) (ltb-true 0 left q) refl refl
   sending b h (StatusDue x) e q = absurd (true≢false (sym q))
 
-  taking : (p : List ℕ) → s .link .haltout ≡ false → length p ≡ 64 → (g : Stage) → s .link .task .stage ≡ g → isTaking g ≡ true → OutGoes (outStage g d m p)
-  unfolding outStage onData gathered gatheredState moved storedBlock isTaking due isStatusDue
-  taking p h w Ready e q = absurd (true≢false (sym q))
-  taking p h w (DataOut block left held) e q =
-      let l = ltb-true 0 left q in
-      by-if OutGoes (eqb left 0) _ _ (λ y. let k = eqb-true left 0 y in absurd (omega arith))
-      (λ _. by-if OutGoes (eqb (length p) 64) _ _
-      (λ _. by-if OutGoes (ltb (held + 64) 512) _ _
+  packet : (block left held : ℕ) (p : List ℕ) (u : LogicalUnit) (m : List ℕ) → s .link .haltout ≡ false → length p ≡ 64 → s .link .task .stage ≡ DataOut block left held → 0 < left
+      → Left (onData block left held p (w .dev) u m .dev)
+  unfolding onData gathered gatheredState moved storedBlock due isStatusDue
+  packet block left held p u m h n e l =
+      by-if (λ (r : UnitOut). Left (r .dev)) (eqb (length p) 64) _ _
+      (λ _. by-if (λ (r : UnitOut). Left (r .dev)) (ltb (held + 64) 512) _ _
       (λ _. more s (s .link .task .residue) (s .link .haltout) (DataOut block left (held + 64)) (ap (λ (g : Stage). s .link .task .residue - due g) (sym e)) refl)
-      (λ _. stored s block left held h e l (let k = fitting in let z : due (s .link .task .stage) ≡ 512 * left = ap due e in omega arith)))
-      (λ y. absurd (true≢false (sym (eq-eqb _ _ w) ∙ y))))
-  taking p h w (DataIn place left) e q = absurd (true≢false (sym q))
-  taking p h w (ReplyIn r place left) e q = absurd (true≢false (sym q))
-  taking p h w (StatusDue x) e q = absurd (true≢false (sym q))
+      (λ _. stored s block left held h e l (let k = enough in let z : due (s .link .task .stage) ≡ 512 * left = ap due e in omega arith)))
+      (λ y. absurd (true≢false (sym (eq-eqb _ _ n) ∙ y)))
+
+  taking : (p : List ℕ) → s .link .haltout ≡ false → length p ≡ 64 → (g : Stage) → s .link .task .stage ≡ g → isTaking g ≡ true → Left (outStage g w p .world .dev)
+  unfolding outStage inUnit isTaking
+  taking p h n Ready e q = absurd (true≢false (sym q))
+  taking p h n (DataOut block left held) e q =
+      let l = ltb-true 0 left q in
+      by-if (λ (o : Out). Left (o .world .dev)) (eqb left 0) _ _ (λ y. let k = eqb-true left 0 y in absurd (omega arith)) (λ _. packet block left held p _ _ h n e l)
+  taking p h n (DataIn place left) e q = absurd (true≢false (sym q))
+  taking p h n (ReplyIn r place left) e q = absurd (true≢false (sym q))
+  taking p h n (StatusDue x) e q = absurd (true≢false (sym q))
 
 pub halt-after-data : HaltAfterData
-unfolding begun begunBy moved packetIn packetOut
+unfolding begun begunBy moved packetIn ask packetOut
 halt-after-data = record {
-  begins = λ h p s q. by-case p (s .unit) (h .announced) _ (case-follows h p) q;
-  sends = λ d m b f h q. subst (InGoes d m (fit-of _ _ f)) (sym (if-false _ _ _ h)) (sending d m (fit-of _ _ f) b h _ refl q);
-  takes = λ d m p f h q w. subst (OutGoes d m (fit-of _ _ f)) (sym (if-false _ _ _ h)) (taking d m (fit-of _ _ f) p h w _ refl q);
+  begins = λ h p s u q. by-case p u (h .announced) _ (case-follows h p) q;
+  sends = λ w b f h q. subst (Sent w (fit-of w f) b) (sym (if-false _ _ _ h)) (sending w (fit-of w f) b h _ refl q);
+  takes = λ w p f h q n. subst (λ (o : Out). Left w (fit-of w f) (o .world .dev)) (sym (if-false _ _ _ h)) (taking w (fit-of w f) p h n _ refl q);
 }

@@ -1,61 +1,99 @@
 -- The checks, taken apart once for all events: which answers refuse, and what holds where all are passed. Assumes nothing.
-use Prim.Native.Nat.{_*_}
+use Prim.Native.Nat.{ℕ, _≤_}
 use mathlib.Core.Path.{_≡_, refl, sym, _∙_}
 use mathlib.Core.Bool.{Bool, true, false, true≢false}
-use lib.Dec.{leb, eqb}
+use mathlib.Core.List.{List}
+use lib.Dec.{leb}
 use lib.ListN.{length}
-use Rattle.wire.specs.Choice.{if_then_else_, _and_}
-use Rattle.wire.proofs.Cases.{if-true}
-use Rattle.machine.specs.declared.record.Device.{Device}
+use borrow.Author.Tests.{leb-true}
+use Rattle.wire.specs.Choice.{_and_}
 use Rattle.machine.specs.declared.answer.Answer.{Answer}
 use Rattle.machine.specs.declared.answer.Answer.the-variants.{Silent, Refused}
 use Rattle.machine.specs.declared.answer.Refusal.{Refusal}
 use Rattle.machine.specs.declared.answer.Refusal.the-variants as refusal
+use Rattle.machine.specs.declared.checks.Verdict.{Verdict}
 use Rattle.machine.specs.Answer.{numberOf, refusalNumber}
-use Rattle.machine.specs.Fits.{blockSize, fits}
-use Rattle.machine.specs.Bulk.{packetSize}
-use Rattle.machine.specs.Machine.{Inputs, where-lent, Verdict, passes, refuses, check, checks, inOrder}
+use Rattle.machine.specs.Units.{mediumFits}
+use Rattle.machine.specs.World.{World, Out, out}
+use Rattle.machine.specs.Machine.{Event, busReset, control, bulkOut, bulkIn, lent, fitting, checks, check, inOrder, effect, judged, step}
 use Rattle.machine.specs.Tally.{isAck}
 use Rattle.machine.specs.Claim.{isRefusal}
 use Rattle.machine.specs.Beside.{isQuiet}
 
 -- an answer that a check gives: no ack, 4 or more; and of a bulk event of a configured device, one of 10 to 14
-pub record Barred (d : Device) (i : Inputs) (a : Answer) : Type 0 where
+pub record Barred (w : World) (e : Event) (a : Answer) : Type 0 where
   pub quiet : isAck a ≡ false
   pub still : isQuiet a ≡ true
   pub high : leb 4 (numberOf a) ≡ true
-  pub number : i .bulk ≡ true → d .state .configured ≡ true → isRefusal a ≡ true
+  pub number : checks w e .configured ≡ true → isRefusal a ≡ true
 
 -- what holds where all checks are passed
-pub record Passed (d : Device) (i : Inputs) : Type 0 where
-  pub fit : fits (d .identity) (d .state) ≡ true
-  pub medium : where-lent (i .medium) (λ m. eqb (length m) (blockSize * d .state .unit .blocks)) ≡ true
-  pub buffer : where-lent (i .buffer) (λ b. leb packetSize (length b)) ≡ true
-  pub packet : where-lent (i .packet) (λ p. leb (length p) packetSize) ≡ true
-  pub setup : where-lent (i .setup) (λ s. eqb (length s) 8) ≡ true
-  pub configured : (if i .bulk then d .state .configured else true) ≡ true
-
-by-check : (P : Verdict → Type 0) (b : Bool) (a : Answer) (v : Verdict) → (b ≡ false → P (refuses a)) → (b ≡ true → P v) → P (check b a v)
-unfolding check
-by-check P true a v f g = g refl
-by-check P false a v f g = f refl
+pub record Passed (w : World) (e : Event) : Type 0 where
+  pub fit : checks w e .fits ≡ true
+  pub medium : checks w e .medium ≡ true
+  pub buffer : checks w e .buffer ≡ true
+  pub packet : checks w e .packet ≡ true
+  pub setup : checks w e .setup ≡ true
+  pub configured : checks w e .configured ≡ true
 
 -- numbers 10 to 14 refuse
-refuses-as : (d : Device) (i : Inputs) (r : Refusal) → leb 4 (refusalNumber r) ≡ true → isRefusal (Refused r) ≡ true → Barred d i (Refused r)
+refuses-as : (w : World) (e : Event) (r : Refusal) → leb 4 (refusalNumber r) ≡ true → isRefusal (Refused r) ≡ true → Barred w e (Refused r)
 unfolding isAck isQuiet
-refuses-as d i r h e = record { quiet = refl; still = refl; high = h; number = λ _ _. e }
+refuses-as w e r h k = record { quiet = refl; still = refl; high = h; number = λ _. k }
 
-silent-as : (d : Device) (i : Inputs) → (if i .bulk then d .state .configured else true) ≡ false → Barred d i Silent
+silent-as : (w : World) (e : Event) → checks w e .configured ≡ false → Barred w e Silent
 unfolding isAck isQuiet
-silent-as d i e = record { quiet = refl; still = refl; high = refl; number = λ k c. absurd (true≢false (sym c ∙ sym (if-true (i .bulk) (d .state .configured) true k) ∙ e)) }
+silent-as w e n = record { quiet = refl; still = refl; high = refl; number = λ c. absurd (true≢false (sym c ∙ n)) }
 
-pub judge : (P : Verdict → Type 0) (d : Device) (i : Inputs) → ((a : Answer) → Barred d i a → P (refuses a)) → (Passed d i → P passes) → P (checks d i)
-unfolding checks isRefusal _and_ inOrder
-judge P d i f g =
-    by-check P _ _ _ (λ e. f _ (refuses-as d i refusal.Record refl refl))
-    (λ fit. by-check P _ _ _ (λ e. f _ (refuses-as d i refusal.Medium refl refl))
-    (λ medium. by-check P _ _ _ (λ e. f _ (refuses-as d i refusal.Buffer refl refl))
-    (λ buffer. by-check P _ _ _ (λ e. f _ (refuses-as d i refusal.Packet refl refl))
-    (λ packet. by-check P _ _ _ (λ e. f _ (refuses-as d i refusal.Setup refl refl))
-    (λ setup. by-check P _ _ _ (λ e. f _ (silent-as d i e))
+pub judge : (P : Out → Type 0) (w : World) (e : Event) → ((a : Answer) → Barred w e a → P (out a w (lent e))) → (Passed w e → P (effect w e)) → P (step w e)
+unfolding step check inOrder judged isRefusal _and_
+judge P w e f g =
+    by-check _ _ _ (λ _. f _ (refuses-as w e refusal.Record refl refl))
+    (λ fit. by-check _ _ _ (λ _. f _ (refuses-as w e refusal.Medium refl refl))
+    (λ medium. by-check _ _ _ (λ _. f _ (refuses-as w e refusal.Buffer refl refl))
+    (λ buffer. by-check _ _ _ (λ _. f _ (refuses-as w e refusal.Packet refl refl))
+    (λ packet. by-check _ _ _ (λ _. f _ (refuses-as w e refusal.Setup refl refl))
+    (λ setup. by-check _ _ _ (λ n. f _ (silent-as w e n))
     (λ configured. g (record { fit = fit; medium = medium; buffer = buffer; packet = packet; setup = setup; configured = configured })))))))
+  where
+    After : Verdict → Type 0
+    After v = P (judged v w (lent e) (effect w e))
+
+    by-check : (b : Bool) (a : Answer) (v : Verdict) → (b ≡ false → P (out a w (lent e))) → (b ≡ true → After v) → After (check b a v)
+    by-check true a v x y = y refl
+    by-check false a v x y = x refl
+
+-- an event whose checks pass
+pub passes : (w : World) (e : Event) → Passed w e → step w e ≡ effect w e
+unfolding step check inOrder judged
+passes w e x = simp (x .fit, x .medium, x .buffer, x .packet, x .setup, x .configured)
+
+-- ---- what the checks tell, by name
+
+pub fit-passed : {w : World} (e : Event) → Passed w e → fitting w ≡ true
+unfolding checks
+fit-passed busReset x = x .fit
+fit-passed (control s b) x = x .fit
+fit-passed (bulkOut p) x = x .fit
+fit-passed (bulkIn b) x = x .fit
+
+module _ {w : World} (p b : List ℕ) where
+  pub out-medium : Passed w (bulkOut p) → mediumFits (w .units) (w .medium) ≡ true
+  unfolding checks
+  out-medium x = x .medium
+
+  pub out-configured : Passed w (bulkOut p) → w .dev .state .configured ≡ true
+  unfolding checks
+  out-configured x = x .configured
+
+  pub in-configured : Passed w (bulkIn b) → w .dev .state .configured ≡ true
+  unfolding checks
+  in-configured x = x .configured
+
+  pub in-room : Passed w (bulkIn b) → 64 ≤ length b
+  unfolding checks
+  in-room x = leb-true 64 (length b) (x .buffer)
+
+  pub control-room : Passed w (control p b) → 64 ≤ length b
+  unfolding checks
+  control-room x = leb-true 64 (length b) (x .buffer)

@@ -1,48 +1,46 @@
 -- After a broken wrapper both pipes stay shut until an acked drop. Assumes nothing.
 use Prim.Native.Nat.{ℕ}
 use mathlib.Core.Path.{_≡_, refl, sym, ap, _∙_, subst}
-use mathlib.Core.Bool.{Bool, true, false, _||_, or-true, true≢false, false≢true}
+use mathlib.Core.Bool.{Bool, true, false, _||_, or-true, true≢false}
 use mathlib.Core.List.{List, []}
+use lib.ListN.{length}
 use lib.Dec.{eqb}
 use Rattle.wire.specs.Choice.{_and_}
-use Rattle.wire.proofs.Cases.{by-if, if-true, if-false, and-true}
 use Rattle.usb.specs.Request.{requestOf}
-use Rattle.usb.specs.declared.request.Endpoint.{Endpoint}
-use Rattle.usb.specs.declared.request.Endpoint.the-variants.{Control, BulkIn, BulkOut}
 use Rattle.usb.specs.declared.request.Request.{Request}
-use Rattle.usb.specs.declared.request.Request.the-variants.{SetAddress, SetConfiguration, GetConfiguration, GetDeviceStatus, GetInterfaceStatus, GetEndpointStatus, ClearHalt, SetHalt, MassStorageReset, GetMaxLun, GetDescriptor}
-use Rattle.usb.specs.declared.request.Request.the-variants as request
-use Rattle.machine.specs.declared.record.Stage.{Stage}
-use Rattle.machine.specs.declared.record.Device.{Device}
-use Rattle.machine.specs.declared.wrapper.Wrapper.{Wrapper}
 use Rattle.machine.specs.declared.answer.Answer.{Answer}
 use Rattle.machine.specs.declared.answer.Answer.the-variants.{Ack, Stall}
 use Rattle.machine.specs.Answer.{numberOf}
-use Rattle.machine.specs.Record.{withHalts, withState}
-use Rattle.machine.specs.Outcome.{Reaction, reacts, Effect, effects}
-use Rattle.machine.specs.Control.{reset, needsConfigured, endpointStatus, haltIn, haltOut, clearHalt, setHalt, perform}
 use Rattle.machine.specs.Wrapper.{accepted, wrapperOf}
-use Rattle.machine.specs.Bulk.{lockedState, onWrapper, outStage, packetOut, packetIn}
-use Rattle.machine.specs.Machine.{Event, busReset, control, bulkOut, bulkIn, Verdict, judged, judgedOut, onReset, onControl, onBulkOut, onBulkIn, resetInputs, controlInputs, outInputs, inInputs, Out, out, unlent, step, run}
 use Rattle.machine.specs.Tally.{isAck}
 use Rattle.machine.specs.Claim.{answers, isDrop, ends, isRefusal, isShut, shutAt, Watch, watch, watched, Locks}
 use Rattle.machine.specs.Beside.{IsDue}
+use Rattle.wire.proofs.Cases.{and-true, both, if-true, if-false}
+use Rattle.machine.specs.declared.record.Stage.{Stage}
+use Rattle.machine.specs.declared.wrapper.Wrapper.{Wrapper}
+use Rattle.machine.specs.declared.ask.Asked.{Asked}
+use Rattle.machine.specs.declared.ask.Asked.the-variants.{Quiet}
+use Rattle.machine.specs.Record.{withHalts}
+use Rattle.machine.specs.World.{World, inState, dropped, Out, out}
+use Rattle.machine.specs.Control.{reset}
+use Rattle.machine.specs.Bulk.{lockedState, onWrapper, outStage, packetOut, ask, deliver, packetIn}
+use Rattle.machine.specs.Machine.{Event, busReset, control, bulkOut, bulkIn, lent, checks, effect, step, run}
 use Rattle.machine.proofs.Along.{along}
-use Rattle.machine.proofs.Judge.{judge}
+use Rattle.machine.proofs.Judge.{Barred, Passed, judge}
+use Rattle.machine.proofs.Requests.{Did, stalls, sends, acks, halts, addresses, configures, resets, performs}
 use Rattle.machine.proofs.Due.{due}
 
 -- configured, locked, both pipes halted
-record Locked (d : Device) : Type 0 where
-  configured : d .state .configured ≡ true
-  haltin : d .state .link .haltin ≡ true
-  haltout : d .state .link .haltout ≡ true
-  locked : d .state .link .locked ≡ true
+record Locked (w : World) : Type 0 where
+  configured : w .dev .state .configured ≡ true
+  halted : (w .dev .state .link .haltin and w .dev .state .link .haltout) ≡ true
+  locked : w .dev .state .link .locked ≡ true
 
 -- what an event leaves of that: locked still unless a drop was acked, the medium as it was, a bulk pipe shut
-record Shut (m : List ℕ) (e : Event) (a : Answer) (d : Device) (m′ : List ℕ) : Type 0 where
-  still : ends e a ≡ false → Locked d
-  medium : m′ ≡ m
-  pipe : shutAt e a ≡ true
+record Shut (w : World) (e : Event) (o : Out) : Type 0 where
+  still : ends e (o .answer) ≡ false → Locked (o .world)
+  medium : o .world .medium ≡ w .medium
+  pipe : shutAt e (o .answer) ≡ true
 
 refusal-shut : (a : Answer) → isRefusal a ≡ true → isShut a ≡ true
 unfolding isShut
@@ -52,107 +50,43 @@ stall-shut : isShut Stall ≡ true
 unfolding isShut
 stall-shut = refl
 
-refused-shut : (e : Event) (a : Answer) → isRefusal a ≡ true → shutAt e a ≡ true
-unfolding shutAt
-refused-shut busReset a h = refl
-refused-shut (control q b) a h = refl
-refused-shut (bulkOut p) a h = refusal-shut a h
-refused-shut (bulkIn b) a h = refusal-shut a h
-
-module _ (d : Device) (m : List ℕ) (k : Locked d) where
-  same : (e : Event) (a : Answer) → shutAt e a ≡ true → Shut m e a d m
-  same e a h = record { still = λ _. k; medium = refl; pipe = h }
-
-  halts : (hi ho : Bool) → hi ≡ true → ho ≡ true → Locked (withState d (withHalts (d .state) hi ho (d .state .link .locked)))
-  unfolding withHalts
-  halts hi ho e f = record { configured = k .configured; haltin = e; haltout = f; locked = k .locked }
+module _ (w : World) (k : Locked w) where
+  same : (e : Event) (a : Answer) (b : List ℕ) → shutAt e a ≡ true → Shut w e (out a w b)
+  same e a b h = record { still = λ _. k; medium = refl; pipe = h }
 
   -- ---- control requests
 
-  module _ (q b : List ℕ) where
-    abbrev After : Reaction → Type 0
-    After r = Shut m (control q b) (r .answer) (r .dev) m
+  drops : (q b : List ℕ) (r : Request) (w′ : World) → requestOf q ≡ r → isDrop r ≡ true → w′ .medium ≡ w .medium → Shut w (control q b) (out Ack w′ b)
+  unfolding shutAt ends isAck _and_
+  drops q b r w′ e h m = record { still = λ x. absurd (true≢false (sym (ap isDrop e ∙ h) ∙ x)); medium = m; pipe = refl }
 
-    kept : (a : Answer) → Shut m (control q b) a d m
-    unfolding shutAt
-    kept a = same (control q b) a refl
-
-    changed : (d′ : Device) → Locked d′ → Shut m (control q b) Ack d′ m
-    unfolding shutAt
-    changed d′ l = record { still = λ _. l; medium = refl; pipe = refl }
-
-    drop : (r : Request) (d′ : Device) → requestOf q ≡ r → isDrop r ≡ true → Shut m (control q b) Ack d′ m
-    unfolding shutAt ends isAck _and_
-    drop r d′ e h = record { still = λ x. absurd (true≢false (sym (ap isDrop e ∙ h) ∙ x)); medium = refl; pipe = refl }
-
-    if-configured : (r : Reaction) → After r → After (needsConfigured d b r)
-    unfolding needsConfigured
-    if-configured r x = by-if After (d .state .configured) r _ (λ _. x) (λ _. kept Stall)
-
-    halt-in : (on : Bool) → Locked (withState d (haltIn on (d .state)))
-    unfolding haltIn
-    halt-in on = halts _ _ (if-true (d .state .link .locked) true on (k .locked)) (k .haltout)
-
-    halt-out : (on : Bool) → Locked (withState d (haltOut on (d .state)))
-    unfolding haltOut
-    halt-out on = halts _ _ (k .haltin) (if-true (d .state .link .locked) true on (k .locked))
-
-    statuses : (e : Endpoint) → After (endpointStatus e d b)
-    unfolding endpointStatus
-    statuses Control = kept _
-    statuses BulkIn = if-configured _ (kept _)
-    statuses BulkOut = if-configured _ (kept _)
-
-    clears : (e : Endpoint) → After (clearHalt e d b)
-    unfolding clearHalt
-    clears Control = kept Ack
-    clears BulkIn = if-configured _ (changed _ (halt-in false))
-    clears BulkOut = if-configured _ (changed _ (halt-out false))
-
-    sets : (e : Endpoint) → After (setHalt e d b)
-    unfolding setHalt
-    sets Control = kept Stall
-    sets BulkIn = if-configured _ (changed _ (halt-in true))
-    sets BulkOut = if-configured _ (changed _ (halt-out true))
-
-    performs : (r : Request) → requestOf q ≡ r → After (perform r d b)
-    unfolding perform isDrop
-    performs (SetAddress a) e = by-if After (d .state .configured) _ _ (λ _. kept Stall) (λ h. absurd (false≢true (sym h ∙ k .configured)))
-    performs (SetConfiguration v) e = drop (SetConfiguration v) _ e refl
-    performs GetConfiguration e = kept _
-    performs GetDeviceStatus e = kept _
-    performs GetInterfaceStatus e = if-configured _ (kept _)
-    performs (GetEndpointStatus x) e = statuses x
-    performs (ClearHalt x) e = clears x
-    performs (SetHalt x) e = sets x
-    performs MassStorageReset e = if-configured _ (drop MassStorageReset _ e refl)
-    performs GetMaxLun e = if-configured _ (kept _)
-    performs (GetDescriptor which n) e = kept _
-    performs request.Stall e = kept Stall
+  requests : (q b : List ℕ) (r : Request) (o : Out) → requestOf q ≡ r → Did w b r o → Shut w (control q b) o
+  unfolding shutAt isDrop withHalts dropped
+  requests q b r o e stalls = same _ Stall b refl
+  requests q b r o e (sends x n) = same _ _ _ refl
+  requests q b r o e (acks m) = same _ Ack b refl
+  requests q b r o e (halts hi ho m c h) =
+      record { still = λ _. record { configured = c; halted = h (k .locked) (k .halted); locked = k .locked }; medium = refl; pipe = refl }
+  requests q b r o e (addresses a c) = absurd (true≢false (sym (k .configured) ∙ c))
+  requests q b r o e (configures v) = drops q b r _ e refl refl
+  requests q b r o e (resets c) = drops q b r _ e refl refl
 
   -- ---- one event
 
-  refused : (e : Event) (a : Answer) → isRefusal a ≡ true → Shut m e a d m
-  refused e a h = same e a (refused-shut e a h)
+  refused : (e : Event) (a : Answer) → Barred w e a → Shut w e (out a w (lent e))
+  unfolding shutAt checks lent
+  refused busReset a x = same _ a [] refl
+  refused (control q b) a x = same _ a b refl
+  refused (bulkOut p) a x = same _ a [] (refusal-shut a (x .number (k .configured)))
+  refused (bulkIn b) a x = same _ a b (refusal-shut a (x .number (k .configured)))
 
-  event : (e : Event) → Shut m e (step d m e .answer) (step d m e .dev) (step d m e .medium)
-  unfolding step onReset onControl onBulkOut onBulkIn judged judgedOut packetOut packetIn shutAt ends isAck
-  event busReset =
-      judge (λ (v : Verdict). let r = judged v d [] (reacts Ack (reset d) []) in Shut m busReset (r .answer) (r .dev) m) d resetInputs
-      (λ a x. same busReset a refl)
-      (λ _. record { still = λ x. absurd (true≢false x); medium = refl; pipe = refl })
-  event (control q b) =
-      judge (λ (v : Verdict). let r = judged v d b (perform (requestOf q) d b) in Shut m (control q b) (r .answer) (r .dev) m) d (controlInputs q b)
-      (λ a x. same (control q b) a refl)
-      (λ _. performs q b (requestOf q) refl)
-  event (bulkOut p) =
-      judge (λ (v : Verdict). let r = judgedOut v d m (packetOut d m p) in Shut m (bulkOut p) (r .answer) (r .dev) (r .medium)) d (outInputs m p)
-      (λ a x. refused (bulkOut p) a (x .number refl (k .configured)))
-      (λ _. subst (λ (r : Effect). Shut m (bulkOut p) (r .answer) (r .dev) (r .medium)) (sym (if-true (d .state .link .haltout) (effects Stall d m) _ (k .haltout))) (same (bulkOut p) Stall stall-shut))
-  event (bulkIn b) =
-      judge (λ (v : Verdict). let r = judged v d b (packetIn d m b) in Shut m (bulkIn b) (r .answer) (r .dev) m) d (inInputs m b)
-      (λ a x. refused (bulkIn b) a (x .number refl (k .configured)))
-      (λ _. subst (λ (r : Reaction). Shut m (bulkIn b) (r .answer) (r .dev) m) (sym (if-true (d .state .link .haltin) (reacts Stall d b) _ (k .haltin))) (same (bulkIn b) Stall stall-shut))
+  event : (e : Event) → Passed w e → Shut w e (effect w e)
+  unfolding effect reset dropped packetOut packetIn ask deliver shutAt ends isAck
+  event busReset x = record { still = λ y. absurd (true≢false y); medium = refl; pipe = refl }
+  event (control q b) x = requests q b (requestOf q) _ refl (performs w b (requestOf q))
+  event (bulkOut p) x = subst (Shut w (bulkOut p)) (sym (if-true (w .dev .state .link .haltout) (out Stall w []) _ (both _ _ (k .halted) .1))) (same (bulkOut p) Stall [] stall-shut)
+  event (bulkIn b) x =
+      subst (λ (a : Asked). Shut w (bulkIn b) (deliver a w b)) (sym (if-true (w .dev .state .link .haltin) (Quiet Stall) _ (both _ _ (k .halted) .0))) (same (bulkIn b) Stall b stall-shut)
 
 -- ---- over a list
 
@@ -165,62 +99,59 @@ or-right true b h = absurd (true≢false h)
 or-right false b h = h
 
 -- as long as no drop was acked: locked, each bulk event shut, the medium as it was
-record Held (m₀ : List ℕ) (w : Watch) (d : Device) (m : List ℕ) : Type 0 where
-  locked : w .ended ≡ false → Locked d
-  shut : w .ended ≡ false → w .shut ≡ true
-  medium : w .ended ≡ false → m ≡ m₀
+record Held (m : List ℕ) (v : Watch) (w : World) : Type 0 where
+  locked : v .ended ≡ false → Locked w
+  shut : v .ended ≡ false → v .shut ≡ true
+  medium : v .ended ≡ false → w .medium ≡ m
 
-held-on : (m₀ : List ℕ) (w : Watch) (d : Device) (m : List ℕ) (e : Event) → Held m₀ w d m → Held m₀ (watch w e (step d m e .answer)) (step d m e .dev) (step d m e .medium)
+held-on : (m : List ℕ) (v : Watch) (w : World) (e : Event) → Held m v w → Held m (watch v e (step w e .answer)) (step w e .world)
 unfolding watch
-held-on m₀ w d m e h =
+held-on m v w e h =
     record {
-      locked = λ n. one n .still (or-right (w .ended) (ends e (step d m e .answer)) n);
-      shut = λ n. and-true (w .shut) (shutAt e (step d m e .answer)) (h .shut (before n)) (one n .pipe);
+      locked = λ n. one n .still (or-right (v .ended) (ends e (step w e .answer)) n);
+      shut = λ n. and-true (v .shut) (shutAt e (step w e .answer)) (h .shut (before n)) (one n .pipe);
       medium = λ n. one n .medium ∙ h .medium (before n);
     }
   where
-    before : (w .ended || ends e (step d m e .answer)) ≡ false → w .ended ≡ false
-    before n = or-left (w .ended) (ends e (step d m e .answer)) n
+    before : (v .ended || ends e (step w e .answer)) ≡ false → v .ended ≡ false
+    before n = or-left (v .ended) (ends e (step w e .answer)) n
 
-    one : (w .ended || ends e (step d m e .answer)) ≡ false → Shut m e (step d m e .answer) (step d m e .dev) (step d m e .medium)
-    one n = event d m (h .locked (before n)) e
+    one : (v .ended || ends e (step w e .answer)) ≡ false → Shut w e (step w e)
+    one n = let k = h .locked (before n) in judge (Shut w e) w e (refused w k e) (event w k e)
 
-stays : (d : Device) (m : List ℕ) (gs : List Event) → Locked d → watched gs (answers (run d m gs .replies)) .ended ≡ false
-    → (watched gs (answers (run d m gs .replies)) .shut ≡ true) × (run d m gs .medium ≡ m)
+stays : (w : World) (gs : List Event) → Locked w → watched gs (answers (run w gs .replies)) .ended ≡ false
+    → (watched gs (answers (run w gs .replies)) .shut ≡ true) × (run w gs .world .medium ≡ w .medium)
 unfolding watched
-stays d m gs k n =
-    let h = along watch (Held m) (held-on m) (record { ended = false; shut = true }) d m gs (record { locked = λ _. k; shut = λ _. refl; medium = λ _. refl }) in
+stays w gs k n =
+    let h = along watch (Held (w .medium)) (held-on (w .medium)) (record { ended = false; shut = true }) w gs (record { locked = λ _. k; shut = λ _. refl; medium = λ _. refl }) in
     (h .shut n, h .medium n)
 
 -- ---- a broken wrapper where one is due
 
-locked-of : (d : Device) → d .state .configured ≡ true → Locked (withState d (lockedState (d .state)))
-unfolding lockedState withHalts
-locked-of d c = record { configured = c; haltin = refl; haltout = refl; locked = refl }
+locked-of : (w : World) → w .dev .state .configured ≡ true → Locked (inState w (lockedState (w .dev .state)))
+unfolding lockedState withHalts _and_
+locked-of w c = record { configured = c; halted = refl; locked = refl }
 
-breaks : (d : Device) (m p : List ℕ) → accepted p ≡ false → isRefusal (step d m (bulkOut p) .answer) ≡ false → IsDue d
-    → step d m (bulkOut p) ≡ out Stall (withState d (lockedState (d .state))) m []
-unfolding step onBulkOut judgedOut packetOut outStage onWrapper wrapperOf
-breaks d m p w r u =
-    judge (λ (v : Verdict). isRefusal (judgedOut v d m (packetOut d m p) .answer) ≡ false
-    → unlent (judgedOut v d m (packetOut d m p)) ≡ out Stall (withState d (lockedState (d .state))) m []) d (outInputs m p)
-    (λ a x e. absurd (true≢false (sym (x .number refl (u .configured)) ∙ e)))
-    (λ _ _. ap unlent
-    (if-false (d .state .link .haltout) _ _ (u .unhalted)
-    ∙ ap (λ (g : Stage). outStage g d m p) (u .ready)
-    ∙ ap (λ (x : Wrapper). onWrapper x d m) (if-false (accepted p) _ _ w)))
+breaks : (w : World) (p : List ℕ) → accepted (length (w .units)) p ≡ false → isRefusal (step w (bulkOut p) .answer) ≡ false → IsDue (w .dev)
+    → step w (bulkOut p) ≡ out Stall (inState w (lockedState (w .dev .state))) []
+unfolding effect packetOut outStage onWrapper wrapperOf checks
+breaks w p n r u =
+    judge (λ (o : Out). isRefusal (o .answer) ≡ false → o ≡ out Stall (inState w (lockedState (w .dev .state))) []) w (bulkOut p)
+    (λ a x e. absurd (true≢false (sym (x .number (u .configured)) ∙ e)))
+    (λ _ _. if-false (w .dev .state .link .haltout) _ _ (u .unhalted)
+    ∙ ap (λ (g : Stage). outStage g w p) (u .ready)
+    ∙ ap (λ (x : Wrapper). onWrapper x w) (if-false (accepted (length (w .units)) p) _ _ n))
     r
 
-pub locks : (d : Device) (m : List ℕ) → Locks d m
+pub locks : (w : World) → Locks w
 unfolding Locks run
-locks d m p w r h gs n =
-    let u = due d m h in
-    let d′ = withState d (lockedState (d .state)) in
-    let e : step d m (bulkOut p) ≡ out Stall d′ m [] = breaks d m p w r u in
-    let k : Locked d′ = locked-of d (u .configured) in
-    let s = stays d′ m gs k (subst (λ (o : Out). watched gs (answers (run (o .dev) (o .medium) gs .replies)) .ended ≡ false) e n) in
+locks w p n r h gs z =
+    let u = due w h in
+    let w′ = inState w (lockedState (w .dev .state)) in
+    let e : step w (bulkOut p) ≡ out Stall w′ [] = breaks w p n r u in
+    let s = stays w′ gs (locked-of w (u .configured)) (subst (λ (o : Out). watched gs (answers (run (o .world) gs .replies)) .ended ≡ false) e z) in
     record {
       stalls = ap (λ (o : Out). o .answer) e;
-      pipes = subst (λ (o : Out). watched gs (answers (run (o .dev) (o .medium) gs .replies)) .shut ≡ true) (sym e) (s .0);
-      medium = subst (λ (o : Out). run (o .dev) (o .medium) gs .medium ≡ m) (sym e) (s .1);
+      pipes = subst (λ (o : Out). watched gs (answers (run (o .world) gs .replies)) .shut ≡ true) (sym e) (s .0);
+      medium = subst (λ (o : Out). run (o .world) gs .world .medium ≡ w .medium) (sym e) (s .1);
     }

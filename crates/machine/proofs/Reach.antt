@@ -1,21 +1,21 @@
--- Every record reached from a fresh one fits together. Assumes nothing.
+-- Every record reached from a fresh one fits together with its table. Assumes nothing.
 use Prim.Native.Nat.{ℕ, _+_, _*_, _-_, _≤_, _<_, _%_, min}
 use mathlib.Core.Path.{_≡_, refl, sym, ap, _∙_, subst}
 use mathlib.Core.Bool.{Bool, true, false, not, true≢false}
 use mathlib.Core.List.{List, []}
 use native.Mathlib.Omega.{arith}
 use lib.Dec.{leb, ltb, eqb}
-use lib.ListN.{length, drop}
+use lib.ListN.{length, drop, set}
+use lib.Seq.{set-getD}
 use borrow.Author.Tests.{leb-true, leb-false, ltb-true, eqb-true, eqb-false, le-leb, lt-ltb, eq-eqb}
 use Rattle.wire.specs.Choice.{if_then_else_, _and_}
-use Rattle.wire.proofs.Cases.{both, and-true, by-if, if-true, if-false}
+use Rattle.wire.proofs.Cases.{both, and-true, and-false, by-if, if-true, if-false}
 use Rattle.scsi.specs.Reply.{kindOf, replySize}
 use Rattle.scsi.specs.Sense.{isNoSense}
 use Rattle.scsi.specs.declared.command.Plan.{Plan}
 use Rattle.scsi.specs.declared.command.Plan.the-variants.{Failed, Nothing, Reply, Read, Write}
 use Rattle.scsi.specs.declared.reply.ReplyKind.{ReplyKind}
 use Rattle.scsi.specs.declared.reply.ReplyKind.the-variants as kind
-use Rattle.scsi.specs.declared.sense.Sense.{Sense}
 use Rattle.scsi.proofs.Plans.{PlanFits, plan-fits}
 use Rattle.cases.specs.Cases.{caseOf}
 use Rattle.cases.specs.declared.Transfer.{Transfer}
@@ -26,12 +26,6 @@ use Rattle.bot.specs.declared.csw.Status.the-variants as status
 use Rattle.cases.specs.Claims.{amount, Follows, no-data, no-match, all-in, all-out}
 use Rattle.cases.proofs.Moves.{cases-follow}
 use Rattle.usb.specs.Request.{requestOf}
-use Rattle.usb.specs.declared.descriptor.Identity.{Identity}
-use Rattle.usb.specs.declared.request.Endpoint.{Endpoint}
-use Rattle.usb.specs.declared.request.Endpoint.the-variants.{Control, BulkIn, BulkOut}
-use Rattle.usb.specs.declared.request.Request.{Request}
-use Rattle.usb.specs.declared.request.Request.the-variants.{SetAddress, SetConfiguration, GetConfiguration, GetDeviceStatus, GetInterfaceStatus, GetEndpointStatus, ClearHalt, SetHalt, MassStorageReset, GetMaxLun, GetDescriptor}
-use Rattle.usb.specs.declared.request.Request.the-variants as request
 use Rattle.usb.proofs.Addresses.{address-low}
 use Rattle.machine.specs.declared.record.Stage.{Stage}
 use Rattle.machine.specs.declared.record.Stage.the-variants.{Ready, DataOut, DataIn, ReplyIn, StatusDue}
@@ -39,43 +33,25 @@ use Rattle.machine.specs.declared.record.Task.{Task}
 use Rattle.machine.specs.declared.record.LogicalUnit.{LogicalUnit}
 use Rattle.machine.specs.declared.record.Link.{Link}
 use Rattle.machine.specs.declared.record.State.{State}
-use Rattle.machine.specs.declared.record.Device.{Device}
 use Rattle.machine.specs.declared.wrapper.Wrapper.{Wrapper}
 use Rattle.machine.specs.declared.wrapper.Wrapper.the-variants.{Broken, Good}
-use Rattle.machine.specs.declared.answer.Answer.the-variants.{Ack, Stall}
-use Rattle.machine.specs.Record.{task, noTask, withHalts, droppedState, dropped, withAddress, moved, withState}
-use Rattle.machine.specs.Fits.{sizeFits, numberFits, addressFits, isReady, idleFits, lockFits, taskFits, fits, outFits, inFits}
-use Rattle.machine.specs.Outcome.{Reaction, reacts, Effect}
-use Rattle.machine.specs.Control.{reset, needsConfigured, endpointStatus, haltIn, haltOut, clearHalt, setHalt, perform}
-use Rattle.machine.specs.Wrapper.{accepted, wrapperOf}
-use Rattle.machine.specs.Begin.{hostOf, hasOf, replyOf, dataStage, firstStage, staged, begunBy, begun}
-use Rattle.machine.specs.Bulk.{lockedState, onWrapper, cutShort, gathered, nextOut, storedBlock, onData, outStage, packetOut, handedOut, onAsk, afterStatus, onStatus, inStage, packetIn, cutState, gatheredState, handedState, nextIn, storedState}
-use Rattle.machine.specs.Machine.{Event, busReset, control, bulkOut, bulkIn, Inputs, Verdict, judged, judgedOut, onReset, onControl, onBulkOut, onBulkIn, resetInputs, controlInputs, outInputs, inInputs, step}
-use Rattle.machine.proofs.Judge.{Passed, judge}
-
--- ---- number 10, one law for each conjunct
-
-pub record Fit (i : Identity) (s : State) : Type 0 where
-  pub size : sizeFits (s .unit .blocks) ≡ true
-  pub number : numberFits (i .number) ≡ true
-  pub address : addressFits (s .address) ≡ true
-  pub idle : idleFits s ≡ true
-  pub lock : lockFits (s .link) ≡ true
-  pub task : taskFits (s .unit .blocks) (s .link .task .stage) (s .link .task .announced) (s .link .task .residue) ≡ true
-
-pub fit-of : (i : Identity) (s : State) → fits i s ≡ true → Fit i s
-unfolding fits
-fit-of i s e =
-    let a = both _ _ e in
-    let b = both _ _ (a .1) in
-    let c = both _ _ (b .1) in
-    let d = both _ _ (c .1) in
-    let f = both _ _ (d .1) in
-    record { size = a .0; number = b .0; address = c .0; idle = d .0; lock = f .0; task = f .1 }
-
-pub fits-of : (i : Identity) (s : State) → Fit i s → fits i s ≡ true
-unfolding fits
-fits-of i s f = and-true _ _ (f .size) (and-true _ _ (f .number) (and-true _ _ (f .address) (and-true _ _ (f .idle) (and-true _ _ (f .lock) (f .task)))))
+use Rattle.machine.specs.Wrapper.{accepted, planFor, wrapperOf}
+use Rattle.bot.specs.Cbw.{headerOf}
+use Rattle.usb.specs.declared.request.Request.{Request}
+use Rattle.machine.specs.declared.ask.Source.{Source}
+use Rattle.machine.specs.declared.ask.Asked.{Asked}
+use Rattle.machine.specs.Units.{Table, unitAt, inTable, cleared, every, withPart}
+use Rattle.machine.specs.Record.{device, noTask, withHalts, droppedState, withAddress, moved}
+use Rattle.machine.specs.Fits.{addressFits, isReady, idleFits, lockFits, outFits, inFits, stageFits, lunFits, taskFits}
+use Rattle.machine.specs.World.{World, world, inState, dropped, Out, UnitOut, inUnit}
+use Rattle.machine.specs.Control.{reset}
+use Rattle.machine.specs.Begin.{hostOf, hasOf, replyOf, dataStage, firstStage, staged, begunBy, begun, begunUnit}
+use Rattle.machine.specs.Bulk.{lockedState, onWrapper, onward, cutShort, gathered, nextOut, storedBlock, onData, outStage, packetOut, cutState, gatheredState, storedState, nextIn, handedState, nextPacket, afterStatus, askStage, ask, deliver, packetIn}
+use Rattle.machine.specs.Machine.{Event, busReset, control, bulkOut, bulkIn, effect, step}
+use Rattle.machine.proofs.Judge.{Passed, judge, out-configured, in-configured}
+use Rattle.machine.proofs.Requests.{Did, stalls, sends, acks, halts, addresses, configures, resets, performs}
+use Rattle.machine.proofs.Tables.{cleared-again, cleared-sensed, calm-cleared, same-laid}
+use Rattle.machine.proofs.Fit.{Fit, lun-fits, stage-fits, same-task}
 
 -- ---- the first stage of a command
 
@@ -91,8 +67,8 @@ same-kind kind.Capacity u = refl
 same-le : (n : ℕ) → leb n n ≡ true
 same-le n = le-leb n n (omega arith)
 
-data-fits : (p : Plan) (u : LogicalUnit) (a : ℕ) → PlanFits (u .blocks) p → amount (hasOf p) ≤ a → taskFits (u .blocks) (dataStage p u) a a ≡ true
-unfolding taskFits dataStage hasOf outFits inFits
+data-fits : (p : Plan) (u : LogicalUnit) (a : ℕ) → PlanFits (u .blocks) p → amount (hasOf p) ≤ a → stageFits (u .blocks) (dataStage p u) a a ≡ true
+unfolding stageFits dataStage hasOf outFits inFits
 data-fits (Failed s) u a f h = same-le a
 data-fits Nothing u a f h = same-le a
 data-fits (Reply k n) u a f h =
@@ -104,8 +80,8 @@ data-fits (Write block count) u a f h =
     and-true _ _ (le-leb (block + count) (u .blocks) f) (and-true _ _ refl (and-true _ _ refl (and-true _ _ (le-leb (512 * count) a h) (same-le a))))
 
 case-fits : (p : Plan) (u : LogicalUnit) (a : ℕ) (c : Case) → PlanFits (u .blocks) p → Follows a (amount (hasOf p)) c
-    → taskFits (u .blocks) (staged (c .ending) (c .moves) p u) a a ≡ true
-unfolding taskFits staged firstStage outFits inFits
+    → stageFits (u .blocks) (staged (c .ending) (c .moves) p u) a a ≡ true
+unfolding stageFits staged firstStage outFits inFits
 case-fits p u a c f (no-data e) = same-le a
 case-fits p u a c f (no-match e) = same-le a
 case-fits p u a c f (all-in h) = data-fits p u a f h
@@ -118,70 +94,60 @@ host-amount h = by-if (λ (t : Transfer). amount t ≡ h .announced) (h .inward)
 pub case-follows : (h : Header) (p : Plan) → Follows (h .announced) (amount (hasOf p)) (caseOf (hostOf h) (hasOf p))
 case-follows h p = subst (λ (a : ℕ). Follows a (amount (hasOf p)) (caseOf (hostOf h) (hasOf p))) (host-amount h) (cases-follow (hostOf h) (hasOf p))
 
--- ---- what each way of changing the record keeps
+-- the plan of an accepted wrapper keeps to its unit, which is in the table
+record Planned (us : Table) (h : Header) (x : Plan) : Type 0 where
+  listed : inTable (h .lun) us ≡ true
+  fits : PlanFits (unitAt us (h .lun) .blocks) x
 
-module _ (i : Identity) (s : State) (f : Fit i s) where
-  -- a configured, unlocked device moves on within a command
-  moves : s .configured ≡ true → s .link .locked ≡ false → (sn : Sense) (hi ho : Bool) (g : Task)
-      → taskFits (s .unit .blocks) (g .stage) (g .announced) (g .residue) ≡ true → Fit i (moved s sn hi ho g)
-  unfolding moved idleFits lockFits
-  moves c u sn hi ho g t =
-      record { size = f .size; number = f .number; address = f .address; idle = if-true _ _ _ c; lock = if-false _ _ _ u; task = t }
-
-  halts : s .configured ≡ true → (hi ho k : Bool) → (k ≡ true → (hi and ho) ≡ true) → Fit i (withHalts s hi ho k)
-  unfolding withHalts idleFits lockFits
-  halts c hi ho k h =
-      record {
-        size = f .size;
-        number = f .number;
-        address = f .address;
-        idle = if-true _ _ _ c;
-        lock = by-if (λ (b : Bool). b ≡ true) k (hi and ho) true h (λ _. refl);
-        task = f .task;
-      }
-
-  drops : (a : ℕ) (c hi ho : Bool) → addressFits a ≡ true → (c ≡ false → (not hi and not ho) ≡ true) → Fit i (droppedState s a c hi ho)
-  unfolding droppedState idleFits lockFits taskFits isReady isNoSense if_then_else_ _and_ outFits inFits
-  drops a c hi ho l h =
-      record {
-        size = f .size;
-        number = f .number;
-        address = l;
-        idle = by-if (λ (b : Bool). b ≡ true) c true (not hi and not ho and true) (λ _. refl)
-            (λ e. let b = both (not hi) (not ho) (h e) in and-true (not hi) _ (b .0) (and-true (not ho) true (b .1) refl));
-        lock = refl;
-        task = refl;
-      }
-
--- the plan of an accepted wrapper keeps to the unit
-planned : (n : ℕ) (p : List ℕ) (h : Header) (x : Plan) → wrapperOf n p ≡ Good h x → PlanFits n x
-unfolding wrapperOf
-planned n p h x e = by-if (λ (w : Wrapper). w ≡ Good h x → PlanFits n x) (accepted p) _ _ (λ _ e. subst (PlanFits n) (plan-same e) (plan-fits (drop 15 p) n)) (λ _ e. absurd (broken e)) e
+planned : (us : Table) (p : List ℕ) (h : Header) (x : Plan) → wrapperOf us p ≡ Good h x → Planned us h x
+unfolding wrapperOf accepted
+planned us p h x =
+    by-if (λ (w : Wrapper). w ≡ Good h x → Planned us h x) (accepted (length us) p) _ _
+    (λ a e. subst (λ (y : Plan). Planned us h y) (plan-same e)
+    (subst (λ (y : Header). Planned us y (planFor (unitAt us (headerOf p .lun)) (drop 15 p))) (header-same e)
+    (record { listed = both _ _ (both _ _ a .1) .0; fits = plan-fits (drop 15 p) (unitAt us (headerOf p .lun) .blocks) })))
+    (λ _ e. absurd (broken e))
   where
-    plan-same : {a b : Header} {y : Plan} → Good a y ≡ Good b x → y ≡ x
+    plan-same : {a b : Header} {y z : Plan} → Good a y ≡ Good b z → y ≡ z
     plan-same e = cc
+
+    header-same : {a b : Header} {y z : Plan} → Good a y ≡ Good b z → a ≡ b
+    header-same e = cc
 
     broken : Broken ≡ Good h x → ⊥
     broken e = let z : _≡_ {A = ℕ} 0 1 = cc in omega arith
 
-status-task : (n : ℕ) (x : Status) (a r : ℕ) → r ≤ a → taskFits n (StatusDue x) a r ≡ true
-unfolding taskFits outFits inFits
-status-task n x a r h = le-leb r a h
+-- a unit in the table suits every stage
+any-lun : (g : Stage) (n : ℕ) (us : Table) → inTable n us ≡ true → lunFits g n us ≡ true
+unfolding lunFits
+any-lun Ready n us h = refl
+any-lun (DataOut block left held) n us h = h
+any-lun (DataIn place left) n us h = h
+any-lun (ReplyIn reply place left) n us h = refl
+any-lun (StatusDue status) n us h = refl
+
+-- ---- bounds of a transfer
 
 -- one more packet of 64 bytes
-one-more : (n place left a r : ℕ) → 64 < left → place + left ≤ n → left ≤ r → r ≤ a
-    → (leb (place + 64 + (left - 64)) n and leb (left - 64) (r - 64) and leb (r - 64) a) ≡ true
+one-more : (n place left a r : ℕ) → 64 < left → place + left ≤ n → left ≤ r → r ≤ a → inFits n (place + 64) (left - 64) a (r - 64) ≡ true
+unfolding inFits
 one-more n place left a r l x y z =
-    and-true (leb (place + 64 + (left - 64)) n) _ (le-leb (place + 64 + (left - 64)) n (omega arith))
-    (and-true (leb (left - 64) (r - 64)) (leb (r - 64) a) (le-leb (left - 64) (r - 64) (omega arith)) (le-leb (r - 64) a (omega arith)))
+    and-true _ _ (le-leb (place + 64 + (left - 64)) n (omega arith)) (and-true _ _ (le-leb (left - 64) (r - 64) (omega arith)) (le-leb (r - 64) a (omega arith)))
 
-stays-configured : (s : State) (sn : Sense) (hi ho : Bool) (g : Task) → moved s sn hi ho g .configured ≡ s .configured
-unfolding moved
-stays-configured s sn hi ho g = refl
+out-task : (n block left held a r : ℕ) → block + left ≤ n → held % 64 ≡ 0 → held < 512 → 512 * left ≤ r → r ≤ a → outFits n block left held a r ≡ true
+unfolding outFits
+out-task n block left held a r x y z u v =
+    and-true _ _ (le-leb _ _ x) (and-true _ _ (eq-eqb _ _ y) (and-true _ _ (lt-ltb _ _ z) (and-true _ _ (le-leb _ _ u) (le-leb _ _ v))))
 
--- a record that an event leaves
-abbrev pub Fine : Device → Type 0
-Fine d = Fit (d .identity) (d .state)
+-- the next block is due, or the status, whatever the unit that it is of
+next-fits : (n block left a r : ℕ) → block + left ≤ n → 512 * left ≤ r → r ≤ a → (left ≡ 0 → ⊥) → stageFits n (nextOut block left) a (r - 512) ≡ true
+unfolding nextOut stageFits
+next-fits n block left a r x u v z =
+    by-if (λ (g : Stage). stageFits n g a (r - 512) ≡ true) (leb left 1) _ _
+    (λ _. le-leb (r - 512) a (omega arith))
+    (λ e. let l = leb-false left 1 e in out-task n (block + 1) (left - 1) 0 a (r - 512) (omega arith) refl (omega arith) (omega arith) (omega arith))
+
+-- ---- a lock
 
 lock-is : (l : Link) → l .locked ≡ true → lockFits l ≡ (l .haltin and l .haltout)
 unfolding lockFits
@@ -191,26 +157,25 @@ not-both : (b : Bool) → (b ≡ true → ⊥) → b ≡ false
 not-both true n = absurd (n refl)
 not-both false n = refl
 
-and-right-false : (a b : Bool) → b ≡ false → (a and b) ≡ false
-unfolding _and_
-and-right-false true b e = e
-and-right-false false b e = refl
-
 and-left-false : (a b : Bool) → a ≡ false → (a and b) ≡ false
 unfolding _and_
 and-left-false true b e = absurd (true≢false e)
 and-left-false false b e = refl
 
--- a bulk event that passes its checks is met by a configured device
-bulk-configured : {d : Device} {i : Inputs} → i .bulk ≡ true → Passed d i → d .state .configured ≡ true
-bulk-configured e x = sym (if-true _ _ _ e) ∙ x .configured
+-- ---- one event
 
-module _ (d : Device) (m : List ℕ) (f : Fine d) where
-  abbrev i : Identity
-  i = d .identity
-
+module _ (w : World) (f : Fit w) where
   abbrev s : State
-  s = d .state
+  s = w .dev .state
+
+  abbrev us : Table
+  us = w .units
+
+  abbrev t : Task
+  t = s .link .task
+
+  abbrev Kept : Out → Type 0
+  Kept o = Fit (o .world)
 
   locked-halts : s .link .locked ≡ true → (s .link .haltin and s .link .haltout) ≡ true
   locked-halts k = sym (lock-is (s .link) k) ∙ f .lock
@@ -219,185 +184,163 @@ module _ (d : Device) (m : List ℕ) (f : Fine d) where
   unlocked : (s .link .haltin and s .link .haltout) ≡ false → s .link .locked ≡ false
   unlocked e = not-both (s .link .locked) (λ k. true≢false (sym (locked-halts k) ∙ e))
 
+  -- ---- what each way of changing the collector keeps
+
+  -- a configured, unlocked device moves on within a command
+  moves : s .configured ≡ true → s .link .locked ≡ false → (hi ho : Bool) (g : Task) (b : List ℕ) (vs : Table) (m : List ℕ) → cleared vs ≡ cleared us
+      → taskFits us g ≡ true → Fit (world (device (w .dev .identity) (moved s hi ho g) b) vs m)
+  unfolding moved idleFits lockFits
+  moves c k hi ho g b vs m e h =
+      record {
+        laid = same-laid vs us e ∙ f .laid;
+        number = f .number;
+        address = f .address;
+        idle = if-true _ _ _ c;
+        lock = if-false _ _ _ k;
+        task = same-task vs us e g ∙ h;
+      }
+
+  halted : s .configured ≡ true → (hi ho k : Bool) → (k ≡ true → (hi and ho) ≡ true) → Fit (inState w (withHalts s hi ho k))
+  unfolding withHalts idleFits lockFits
+  halted c hi ho k h =
+      record {
+        laid = f .laid;
+        number = f .number;
+        address = f .address;
+        idle = if-true _ _ _ c;
+        lock = by-if (λ (b : Bool). b ≡ true) k (hi and ho) true h (λ _. refl);
+        task = f .task;
+      }
+
+  drops : (a : ℕ) (c hi ho : Bool) → addressFits a ≡ true → (c ≡ false → (not hi and not ho) ≡ true) → Fit (dropped w a c hi ho)
+  unfolding dropped droppedState idleFits lockFits taskFits lunFits stageFits isReady if_then_else_ _and_
+  drops a c hi ho l h =
+      record {
+        laid = same-laid (cleared us) us (cleared-again us) ∙ f .laid;
+        number = f .number;
+        address = l;
+        idle = by-if (λ (b : Bool). b ≡ true) c true (not hi and not ho and every (λ u. isNoSense (u .sense)) (cleared us)) (λ _. refl)
+            (λ e. let b = both (not hi) (not ho) (h e) in and-true (not hi) _ (b .0) (and-true (not ho) _ (b .1) (calm-cleared us)));
+        lock = refl;
+        task = refl;
+      }
+
   -- ---- control requests
 
-  module _ (q b : List ℕ) where
-    abbrev Kept : Reaction → Type 0
-    Kept r = Fine (r .dev)
+  requests : (q b : List ℕ) (r : Request) (o : Out) → requestOf q ≡ r → Did w b r o → Kept o
+  unfolding withAddress addressFits idleFits _and_
+  requests q b r o e stalls = f
+  requests q b r o e (sends x n) = f
+  requests q b r o e (acks m) = f
+  requests q b r o e (halts hi ho m c h) = halted c hi ho _ (λ k. h k (locked-halts k))
+  requests q b r o e (addresses a c) =
+      record { laid = f .laid; number = f .number; address = le-leb a 0x7F (address-low q a e); idle = f .idle; lock = f .lock; task = f .task }
+  requests q b r o e (configures v) = drops _ _ _ _ (f .address) (λ _. refl)
+  requests q b r o e (resets c) = drops _ true _ _ (f .address) (λ x. absurd (true≢false x))
 
-    if-configured : (r : Reaction) → (s .configured ≡ true → Kept r) → Kept (needsConfigured d b r)
-    unfolding needsConfigured
-    if-configured r g = by-if Kept (s .configured) r _ g (λ _. f)
-
-    halt-in : (on : Bool) → s .configured ≡ true → Fine (withState d (haltIn on s))
-    unfolding haltIn
-    halt-in on c = halts i s f c _ _ _ (λ k. and-true _ _ (if-true (s .link .locked) true on k) (both _ _ (locked-halts k) .1))
-
-    halt-out : (on : Bool) → s .configured ≡ true → Fine (withState d (haltOut on s))
-    unfolding haltOut
-    halt-out on c = halts i s f c _ _ _ (λ k. and-true _ _ (both _ _ (locked-halts k) .0) (if-true (s .link .locked) true on k))
-
-    statuses : (e : Endpoint) → Kept (endpointStatus e d b)
-    unfolding endpointStatus
-    statuses Control = f
-    statuses BulkIn = if-configured _ (λ _. f)
-    statuses BulkOut = if-configured _ (λ _. f)
-
-    clears : (e : Endpoint) → Kept (clearHalt e d b)
-    unfolding clearHalt
-    clears Control = f
-    clears BulkIn = if-configured _ (halt-in false)
-    clears BulkOut = if-configured _ (halt-out false)
-
-    sets : (e : Endpoint) → Kept (setHalt e d b)
-    unfolding setHalt
-    sets Control = f
-    sets BulkIn = if-configured _ (halt-in true)
-    sets BulkOut = if-configured _ (halt-out true)
-
-    performs : (r : Request) → requestOf q ≡ r → Kept (perform r d b)
-    unfolding perform dropped withAddress addressFits idleFits _and_
-    performs (SetAddress a) e =
-        by-if Kept (s .configured) (reacts Stall d b) (reacts Ack (withState d (withAddress s a)) b) (λ _. f)
-        (λ _. record { size = f .size; number = f .number; address = le-leb a 0x7F (address-low q a e); idle = f .idle; lock = f .lock; task = f .task })
-    performs (SetConfiguration v) e = drops i s f _ _ _ _ (f .address) (λ _. refl)
-    performs GetConfiguration e = f
-    performs GetDeviceStatus e = f
-    performs GetInterfaceStatus e = if-configured _ (λ _. f)
-    performs (GetEndpointStatus x) e = statuses x
-    performs (ClearHalt x) e = clears x
-    performs (SetHalt x) e = sets x
-    performs MassStorageReset e = if-configured _ (λ _. drops i s f _ true _ _ (f .address) (λ x. absurd (true≢false x)))
-    performs GetMaxLun e = if-configured _ (λ _. f)
-    performs (GetDescriptor which n) e = f
-    performs request.Stall e = f
+  -- the next stage of the command in hand, of the same unit
+  onward-fits : (g : Stage) (r : ℕ) → lunFits g (t .lun) us ≡ true → stageFits (unitAt us (t .lun) .blocks) g (t .announced) r ≡ true → taskFits us (onward s g r) ≡ true
+  unfolding taskFits
+  onward-fits g r x y = and-true _ _ x y
 
   -- ---- a bulk-out packet, of a configured device whose bulk-out pipe is not halted
 
-  -- bounds of the command in hand, at the stage that it has
-  in-stage : (g : Stage) → s .link .task .stage ≡ g → taskFits (s .unit .blocks) g (s .link .task .announced) (s .link .task .residue) ≡ true
-  in-stage g e = subst (λ (x : Stage). taskFits (s .unit .blocks) x (s .link .task .announced) (s .link .task .residue) ≡ true) e (f .task)
-
-  module _ (c : s .configured ≡ true) (o : s .link .haltout ≡ false) where
+  module _ (c : s .configured ≡ true) (o : s .link .haltout ≡ false) (p : List ℕ) where
     free : s .link .locked ≡ false
-    free = unlocked (and-right-false (s .link .haltin) (s .link .haltout) o)
+    free = unlocked (ap (λ (b : Bool). s .link .haltin and b) o ∙ and-false (s .link .haltin))
 
-    module _ (p : List ℕ) where
-      abbrev Left : Effect → Type 0
-      Left r = Fine (r .dev)
+    wrappers : (x : Wrapper) → wrapperOf us p ≡ x → Kept (onWrapper x w)
+    unfolding onWrapper lockedState begun begunBy begunUnit taskFits _and_
+    wrappers Broken e = halted c true true true (λ _. refl)
+    wrappers (Good h x) e =
+        let q = planned us p h x e in
+        moves c free _ _ _ _ _ _ (cleared-sensed us (h .lun) _)
+        (and-true _ _ (any-lun _ (h .lun) us (q .listed)) (case-fits x (unitAt us (h .lun)) (h .announced) _ (q .fits) (case-follows h x)))
 
-      wrappers : (w : Wrapper) → wrapperOf (s .unit .blocks) p ≡ w → Left (onWrapper w d m)
-      unfolding onWrapper lockedState begun begunBy _and_
-      wrappers Broken e = halts i s f c true true true (λ _. refl)
-      wrappers (Good h x) e =
-          moves i s f c free _ _ _ _
-          (case-fits x (s .unit) (h .announced) _ (planned (s .unit .blocks) p h x e) (case-follows h x))
+    abbrev Lifted : UnitOut → Type 0
+    Lifted r = Fit (world (r .dev) (set us (t .lun) (r .unit)) (withPart (unitAt us (t .lun)) (w .medium) (r .medium)))
 
-      -- the bounds of a write, as facts
-      out-bounds : (block left held : ℕ) → s .link .task .stage ≡ DataOut block left held
-          → (block + left ≤ s .unit .blocks) × (held % 64 ≡ 0) × (held < 512) × (512 * left ≤ s .link .task .residue) × (s .link .task .residue ≤ s .link .task .announced)
-      unfolding taskFits outFits inFits
-      out-bounds block left held e =
-          let a = both _ _ (in-stage (DataOut block left held) e) in
-          let b = both _ _ (a .1) in
-          let x = both _ _ (b .1) in
-          let y = both _ _ (x .1) in
-          (leb-true _ _ (a .0), eqb-true _ _ (b .0), ltb-true _ _ (x .0), leb-true _ _ (y .0), leb-true _ _ (y .1))
+    datas : (block left held : ℕ) → t .stage ≡ DataOut block left held → (left ≡ 0 → ⊥) → Kept (inUnit w (t .lun) (onData block left held p))
+    unfolding inUnit onData cutShort gathered storedBlock cutState gatheredState storedState stageFits outFits lunFits
+    datas block left held e n =
+        let l = lun-fits us t (f .task) (DataOut block left held) e in
+        let a = both _ _ (stage-fits us t (f .task) (DataOut block left held) e) in
+        let b = both _ _ (a .1) in
+        let x = both _ _ (b .1) in
+        let y = both _ _ (x .1) in
+        let within = leb-true _ _ (a .0) in
+        let whole : held % 64 ≡ 0 = eqb-true _ _ (b .0) in
+        let due = leb-true _ _ (y .0) in
+        let most = leb-true _ _ (y .1) in
+        let same = ap cleared (set-getD us (t .lun) _) in
+        by-if Lifted (eqb (length p) 64) _ _
+        (λ _. by-if Lifted (ltb (held + 64) 512) _ _
+        (λ z. moves c free _ _ _ _ _ _ same (onward-fits _ _ l (out-task _ block left (held + 64) _ _ within (omega arith) (ltb-true _ _ z) due most)))
+        (λ _. moves c free _ _ _ _ _ _ same (onward-fits _ _ (any-lun (nextOut block left) (t .lun) us l) (next-fits _ block left _ _ within due most n))))
+        (λ _. moves c free _ _ _ _ _ _ (cleared-sensed us (t .lun) _) (onward-fits _ _ refl (le-leb _ _ most)))
 
-      out-task : (block left held a r : ℕ) → block + left ≤ s .unit .blocks → held % 64 ≡ 0 → held < 512 → 512 * left ≤ r → r ≤ a → taskFits (s .unit .blocks) (DataOut block left held) a r ≡ true
-      unfolding taskFits outFits inFits
-      out-task block left held a r x y z u v =
-          and-true _ _ (le-leb _ _ x) (and-true _ _ (eq-eqb _ _ y) (and-true _ _ (lt-ltb _ _ z) (and-true _ _ (le-leb _ _ u) (le-leb _ _ v))))
-
-      next-task : (block left a r : ℕ) → block + left ≤ s .unit .blocks → 512 * left ≤ r → r ≤ a → (left ≡ 0 → ⊥) → taskFits (s .unit .blocks) (nextOut block left) a (r - 512) ≡ true
-      unfolding nextOut
-      next-task block left a r x u v n =
-          by-if (λ (g : Stage). taskFits (s .unit .blocks) g a (r - 512) ≡ true) (leb left 1) _ _
-          (λ _. status-task _ _ a (r - 512) (omega arith))
-          (λ e. let l = leb-false left 1 e in out-task (block + 1) (left - 1) 0 a (r - 512) (omega arith) refl (omega arith) (omega arith) (omega arith))
-
-      datas : (block left held : ℕ) → s .link .task .stage ≡ DataOut block left held → (left ≡ 0 → ⊥) → Left (onData d m block left held p)
-      unfolding onData cutShort gathered storedBlock cutState gatheredState storedState
-      datas block left held e n =
-          let b = out-bounds block left held e in
-          by-if Left (eqb (length p) 64) _ _
-          (λ _. by-if Left (ltb (held + 64) 512) _ _
-          (λ x. moves i s f c free _ _ _ _ (out-task block left (held + 64) _ _ (b .0) (let z = b .1 in omega arith) (ltb-true _ _ x) (b .3) (b .4)))
-          (λ _. moves i s f c free _ _ _ _ (next-task block left _ _ (b .0) (b .3) (b .4) n)))
-          (λ _. moves i s f c free _ _ _ _ (status-task _ _ _ _ (b .4)))
-
-      outs : (g : Stage) → s .link .task .stage ≡ g → Left (outStage g d m p)
-      unfolding outStage
-      outs Ready e = wrappers (wrapperOf (s .unit .blocks) p) refl
-      outs (DataOut block left held) e = by-if Left (eqb left 0) _ _ (λ _. f) (λ z. datas block left held e (eqb-false left 0 z))
-      outs (DataIn place left) e = f
-      outs (ReplyIn reply place left) e = f
-      outs (StatusDue x) e = f
+    outs : (g : Stage) → t .stage ≡ g → Kept (outStage g w p)
+    unfolding outStage
+    outs Ready e = wrappers (wrapperOf us p) refl
+    outs (DataOut block left held) e = by-if Kept (eqb left 0) _ _ (λ _. f) (λ z. datas block left held e (eqb-false left 0 z))
+    outs (DataIn place left) e = f
+    outs (ReplyIn reply place left) e = f
+    outs (StatusDue x) e = f
 
   -- ---- an ask for a bulk-in packet, of a configured device whose bulk-in pipe is not halted
 
   module _ (c : s .configured ≡ true) (o : s .link .haltin ≡ false) (b : List ℕ) where
-    abbrev Handed : Reaction → Type 0
-    Handed r = Fine (r .dev)
+    abbrev Handed : Asked → Type 0
+    Handed a = Kept (deliver a w b)
 
     open′ : s .link .locked ≡ false
     open′ = unlocked (and-left-false (s .link .haltin) (s .link .haltout) o)
 
+    onwards : (hi ho : Bool) (g : Task) → taskFits us g ≡ true → Fit (inState w (moved s hi ho g))
+    onwards hi ho g h = moves c open′ hi ho g _ _ _ refl h
+
     -- a transfer of bytes to the host, whatever their source: one more packet keeps its bounds
-    asks : (x : List ℕ) (place left : ℕ) (more : Stage)
-        → s .link .task .residue ≤ s .link .task .announced → left ≤ s .link .task .residue
-        → (64 < left → taskFits (s .unit .blocks) more (s .link .task .announced) (s .link .task .residue - 64) ≡ true)
-        → Handed (onAsk d x place left more b)
-    unfolding onAsk handedOut handedState nextIn
-    asks x place left more u v g =
+    asks : (x : Source) (place left size : ℕ) (more : Stage) → lunFits more (t .lun) us ≡ true → inFits size place left (t .announced) (t .residue) ≡ true
+        → stageFits (unitAt us (t .lun) .blocks) more (t .announced) (t .residue - 64) ≡ inFits size (place + 64) (left - 64) (t .announced) (t .residue - 64)
+        → Handed (nextPacket s left x more)
+    unfolding nextPacket deliver handedState nextIn inFits stageFits lunFits
+    asks x place left size more u v g =
+        let h = both _ _ v in
+        let k = both _ _ (h .1) in
+        let y : left ≤ t .residue = leb-true _ _ (k .0) in
+        let z : t .residue ≤ t .announced = leb-true _ _ (k .1) in
+        let less : t .residue - min 64 left ≤ t .announced = omega arith in
         by-if Handed (eqb left 0) _ _ (λ _. f)
-        (λ _. moves i s f c open′ _ _ _ _
-        (by-if (λ (y : Stage). taskFits (s .unit .blocks) y (s .link .task .announced) (s .link .task .residue - min 64 left) ≡ true) (leb left 64) _ _
-        (λ _. status-task _ _ _ _ (omega arith))
+        (λ _. onwards _ _ _
+        (by-if (λ (i : Stage). taskFits us (onward s i (t .residue - min 64 left)) ≡ true) (leb left 64) _ _
+        (λ _. onward-fits _ _ refl (le-leb _ _ less))
         (λ e.
         let l = leb-false left 64 e in
-        let z : min 64 left ≡ 64 = omega arith in
-        subst (λ (k : ℕ). taskFits (s .unit .blocks) more (s .link .task .announced) (s .link .task .residue - k) ≡ true) (sym z) (g l))))
+        let j : min 64 left ≡ 64 = omega arith in
+        subst (λ (n : ℕ). taskFits us (onward s more (t .residue - n)) ≡ true) (sym j) (onward-fits more _ u (g ∙ one-more size place left _ _ l (leb-true _ _ (h .0)) y z)))))
 
-    after : (x : Status) → Fine (withState d (afterStatus x s))
-    unfolding afterStatus lockedState taskFits _and_ outFits inFits
-    after status.Passed = moves i s f c open′ _ _ _ noTask refl
-    after status.Failed = moves i s f c open′ _ _ _ noTask refl
-    after status.PhaseError = halts i _ (moves i s f c open′ _ _ _ noTask refl) (stays-configured s _ _ _ _ ∙ c) true true true (λ _. refl)
+    after : (x : Status) → Fit (inState w (afterStatus x s))
+    unfolding afterStatus lockedState withHalts moved taskFits lunFits stageFits idleFits lockFits if_then_else_ _and_
+    after status.Passed = onwards _ _ noTask refl
+    after status.Failed = onwards _ _ noTask refl
+    after status.PhaseError = let h = onwards true true noTask refl in record { laid = h .laid; number = h .number; address = h .address; idle = if-true _ _ _ c; lock = refl; task = refl }
 
-    ins : (g : Stage) → s .link .task .stage ≡ g → Handed (inStage g d m b)
-    unfolding inStage taskFits onStatus outFits inFits
+    ins : (g : Stage) → t .stage ≡ g → Handed (askStage g s)
+    unfolding askStage deliver stageFits lunFits
     ins Ready e = f
     ins (DataOut block left held) e = f
-    ins (DataIn place left) e =
-        let t = both _ _ (in-stage (DataIn place left) e) in
-        let r = both _ _ (t .1) in
-        let x = leb-true _ _ (t .0) in
-        let y = leb-true _ _ (r .0) in
-        let z = leb-true _ _ (r .1) in
-        asks m place left _ z y (λ l. one-more _ place left _ _ l x y z)
-    ins (ReplyIn reply place left) e =
-        let t = both _ _ (in-stage (ReplyIn reply place left) e) in
-        let r = both _ _ (t .1) in
-        let x = leb-true _ _ (t .0) in
-        let y = leb-true _ _ (r .0) in
-        let z = leb-true _ _ (r .1) in
-        asks _ place left _ z y (λ l. one-more _ place left _ _ l x y z)
+    ins (DataIn place left) e = asks _ place left _ _ (lun-fits us t (f .task) (DataIn place left) e) (stage-fits us t (f .task) (DataIn place left) e) refl
+    ins (ReplyIn reply place left) e = asks _ place left _ _ refl (stage-fits us t (f .task) (ReplyIn reply place left) e) refl
     ins (StatusDue x) e = after x
 
-  -- ---- one event
-
-  pub stays-fit : (e : Event) → Fit (step d m e .dev .identity) (step d m e .dev .state)
-  unfolding step onReset onControl onBulkOut onBulkIn judged judgedOut packetOut packetIn reset dropped addressFits _and_
-  stays-fit busReset =
-      judge (λ (v : Verdict). Fine (judged v d [] (reacts Ack (reset d) []) .dev)) d resetInputs (λ a x. f)
-      (λ _. drops i s f 0 false false false refl (λ _. refl))
-  stays-fit (control q b) =
-      judge (λ (v : Verdict). Fine (judged v d b (perform (requestOf q) d b) .dev)) d (controlInputs q b) (λ a x. f)
-      (λ _. performs q b (requestOf q) refl)
-  stays-fit (bulkOut p) =
-      judge (λ (v : Verdict). Fine (judgedOut v d m (packetOut d m p) .dev)) d (outInputs m p) (λ a x. f)
-      (λ x. by-if (λ (r : Effect). Fine (r .dev)) (s .link .haltout) _ _ (λ _. f) (λ o. outs (bulk-configured refl x) o p (s .link .task .stage) refl))
-  stays-fit (bulkIn b) =
-      judge (λ (v : Verdict). Fine (judged v d b (packetIn d m b) .dev)) d (inInputs m b) (λ a x. f)
-      (λ x. by-if (λ (r : Reaction). Fine (r .dev)) (s .link .haltin) _ _ (λ _. f) (λ o. ins (bulk-configured refl x) o b (s .link .task .stage) refl))
+pub stays-fit : (w : World) → Fit w → (e : Event) → Fit (step w e .world)
+unfolding effect reset packetOut packetIn ask deliver addressFits _and_
+stays-fit w f e = judge (λ (o : Out). Fit (o .world)) w e (λ a x. f) (event e)
+  where
+    event : (e : Event) → Passed w e → Fit (effect w e .world)
+    event busReset x = drops w f 0 false false false refl (λ _. refl)
+    event (control q b) x = requests w f q b (requestOf q) _ refl (performs w b (requestOf q))
+    event (bulkOut p) x =
+        by-if (λ (o : Out). Fit (o .world)) (w .dev .state .link .haltout) _ _ (λ _. f) (λ o. outs w f (out-configured p [] x) o p (w .dev .state .link .task .stage) refl)
+    event (bulkIn b) x =
+        by-if (λ (a : Asked). Fit (deliver a w b .world)) (w .dev .state .link .haltin) _ _ (λ _. f) (λ o. ins w f (in-configured [] b x) o b (w .dev .state .link .task .stage) refl)

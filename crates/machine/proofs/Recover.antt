@@ -1,7 +1,7 @@
--- Mass Storage Reset and both halt clearings, all acked, leave a record that depends on identity, size and address alone;
--- a fresh collector, given an address and configured, has that record. Assumes nothing.
+-- Mass Storage Reset and both halt clearings, all acked, leave a collector that depends on identity, parts, address and medium alone;
+-- a fresh one, given an address and configured, is that collector. Assumes nothing.
 use Prim.Native.Nat.{ℕ, _≤_}
-use mathlib.Core.Path.{_≡_, refl, sym, ap, _∙_}
+use mathlib.Core.Path.{_≡_, refl, sym, ap, _∙_, subst}
 use mathlib.Core.Bool.{Bool, true, false, true≢false}
 use mathlib.Core.List.{List, [], _∷_}
 use native.Mathlib.Nat.{add-zero}
@@ -17,17 +17,20 @@ use Rattle.usb.specs.declared.descriptor.Identity.{Identity}
 use Rattle.usb.specs.declared.request.Endpoint.the-variants.{BulkIn, BulkOut}
 use Rattle.usb.specs.declared.request.Request.{Request}
 use Rattle.usb.specs.declared.request.Request.the-variants.{SetAddress, SetConfiguration, ClearHalt, MassStorageReset}
-use Rattle.machine.specs.declared.record.Device.{Device}
 use Rattle.machine.specs.declared.answer.Answer.{Answer}
 use Rattle.machine.specs.declared.answer.Answer.the-variants.{Ack, Stall}
-use Rattle.machine.specs.Record.{fresh, withHalts, droppedState, dropped, withAddress, withState}
-use Rattle.machine.specs.Fits.{sizeFits, numberFits, addressFits, isReady, idleFits, lockFits, taskFits, fits, outFits, inFits}
-use Rattle.machine.specs.Outcome.{Reaction, reacts}
+use Rattle.machine.specs.Units.{Table, cleared, every, laidOut}
+use Rattle.machine.specs.Record.{fresh, withHalts, droppedState, withAddress}
+use Rattle.machine.specs.Fits.{numberFits, addressFits, isReady, idleFits, lockFits, stageFits, lunFits, taskFits, fits}
+use Rattle.machine.specs.World.{World, world, inState, dropped, Out, out}
 use Rattle.machine.specs.Control.{needsConfigured, haltIn, haltOut, clearHalt, perform}
-use Rattle.machine.specs.Machine.{Event, control, where-lent, Verdict, check, checks, judged, onControl, controlInputs, Out, out, beside, step, run, inOrder}
+use Rattle.machine.specs.Machine.{Event, control, fitting, checks, effect, step, run}
 use Rattle.machine.specs.Tally.{isAck}
 use Rattle.machine.specs.Claim.{answers, setup, recovery, settingUp}
-use Rattle.machine.proofs.Judge.{judge}
+use Rattle.machine.proofs.Judge.{judge, passes, fit-passed}
+use Rattle.machine.proofs.Tables.{calm-cleared}
+use Rattle.machine.proofs.Fit.{Fit, fit-of, fits-of}
+use Rattle.machine.proofs.Reach.{stays-fit}
 
 -- ---- the setups that the demand names are read as what they ask for
 
@@ -57,139 +60,141 @@ not-ack : {a : Answer} → isAck a ≡ false → a ≡ Ack → ⊥
 unfolding isAck
 not-ack {a} h e = true≢false (sym (ap isAck e) ∙ h)
 
-pub acked : (d : Device) (m q b : List ℕ) → step d m (control q b) .answer ≡ Ack
-    → (step d m (control q b) ≡ beside m (perform (requestOf q) d b)) × (fits (d .identity) (d .state) ≡ true)
-unfolding step onControl judged
-acked d m q b =
-    judge (λ (v : Verdict). judged v d b (perform (requestOf q) d b) .answer ≡ Ack
-    → (beside m (judged v d b (perform (requestOf q) d b)) ≡ beside m (perform (requestOf q) d b)) × (fits (d .identity) (d .state) ≡ true)) d (controlInputs q b)
+acked : (w : World) (q b : List ℕ) → step w (control q b) .answer ≡ Ack → (step w (control q b) ≡ perform (requestOf q) w b) × (fitting w ≡ true)
+unfolding effect
+acked w q b =
+    judge (λ (o : Out). o .answer ≡ Ack → (o ≡ perform (requestOf q) w b) × (fitting w ≡ true)) w (control q b)
     (λ a x e. absurd (not-ack (x .quiet) e))
-    (λ x e. (refl, x .fit))
+    (λ x _. (refl, fit-passed (control q b) x))
 
-configured-acked : (d : Device) (b : List ℕ) (r : Reaction) → needsConfigured d b r .answer ≡ Ack → needsConfigured d b r ≡ r
+stall-ack : isAck Stall ≡ false
+unfolding isAck
+stall-ack = refl
+
+-- where it needs a configured device, that was one
+performed : (w : World) (q b : List ℕ) (r : Request) (w′ : World) → requestOf q ≡ r → perform r w b ≡ needsConfigured w b (out Ack w′ b)
+    → step w (control q b) .answer ≡ Ack → step w (control q b) ≡ out Ack w′ b
 unfolding needsConfigured if_then_else_
-configured-acked d b r = go (d .state .configured)
+performed w q b r w′ e f a =
+    let z : step w (control q b) ≡ (if w .dev .state .configured then out Ack w′ b else out Stall w b) = acked w q b a .0 ∙ ap (λ (x : Request). perform x w b) e ∙ f in
+    z ∙ go (w .dev .state .configured) (sym (ap (λ (o : Out). o .answer) z) ∙ a)
   where
-    go : (c : Bool) → (if c then r else reacts Stall d b) .answer ≡ Ack → (if c then r else reacts Stall d b) ≡ r
-    go true e = refl
-    go false e = cc
+    go : (c : Bool) → (if c then out Ack w′ b else out Stall w b) .answer ≡ Ack → (if c then out Ack w′ b else out Stall w b) ≡ out Ack w′ b
+    go true h = refl
+    go false h = absurd (not-ack stall-ack h)
 
--- a request that needs a configured device, acked
-performed : (d : Device) (m q b : List ℕ) (x : Request) (r : Reaction) → requestOf q ≡ x → perform x d b ≡ needsConfigured d b r
-    → step d m (control q b) .answer ≡ Ack → step d m (control q b) ≡ beside m r
-performed d m q b x r e f a =
-    let k : step d m (control q b) ≡ beside m (needsConfigured d b r) = acked d m q b a .0 ∙ ap (λ (y : Request). beside m (perform y d b)) e ∙ ap (beside m) f in
-    k ∙ ap (beside m) (configured-acked d b r (sym (ap (λ (o : Out). o .answer) k) ∙ a))
-
-reset-acked : (d : Device) (m b : List ℕ) → step d m (control (setup 0x21 0xFF 0 0) b) .answer ≡ Ack
-    → step d m (control (setup 0x21 0xFF 0 0) b) ≡ out Ack (dropped d (d .state .address) true (d .state .link .haltin) (d .state .link .haltout)) m b
+reset-acked : (w : World) (b : List ℕ) → step w (control (setup 0x21 0xFF 0 0) b) .answer ≡ Ack
+    → step w (control (setup 0x21 0xFF 0 0) b) ≡ out Ack (dropped w (w .dev .state .address) true (w .dev .state .link .haltin) (w .dev .state .link .haltout)) b
 unfolding perform
-reset-acked d m b a = performed d m _ b MassStorageReset _ read-reset refl a
+reset-acked w b a = performed w _ b MassStorageReset _ read-reset refl a
 
-clear-in-acked : (d : Device) (m b : List ℕ) → step d m (control (setup 0x02 0x01 0 0x81) b) .answer ≡ Ack
-    → step d m (control (setup 0x02 0x01 0 0x81) b) ≡ out Ack (withState d (haltIn false (d .state))) m b
+clear-in-acked : (w : World) (b : List ℕ) → step w (control (setup 0x02 0x01 0 0x81) b) .answer ≡ Ack
+    → step w (control (setup 0x02 0x01 0 0x81) b) ≡ out Ack (inState w (haltIn false (w .dev .state))) b
 unfolding perform clearHalt
-clear-in-acked d m b a = performed d m _ b (ClearHalt BulkIn) _ read-clear-in refl a
+clear-in-acked w b a = performed w _ b (ClearHalt BulkIn) _ read-clear-in refl a
 
-clear-out-acked : (d : Device) (m b : List ℕ) → step d m (control (setup 0x02 0x01 0 0x02) b) .answer ≡ Ack
-    → step d m (control (setup 0x02 0x01 0 0x02) b) ≡ out Ack (withState d (haltOut false (d .state))) m b
+clear-out-acked : (w : World) (b : List ℕ) → step w (control (setup 0x02 0x01 0 0x02) b) .answer ≡ Ack
+    → step w (control (setup 0x02 0x01 0 0x02) b) ≡ out Ack (inState w (haltOut false (w .dev .state))) b
 unfolding perform clearHalt
-clear-out-acked d m b a = performed d m _ b (ClearHalt BulkOut) _ read-clear-out refl a
+clear-out-acked w b a = performed w _ b (ClearHalt BulkOut) _ read-clear-out refl a
 
 -- ---- three acked events in a row
 
-pub first : (d : Device) (m : List ℕ) (e : Event) (es : List Event) (a : Answer) (bs : List Answer) → answers (run d m (e ∷ es) .replies) ≡ (a ∷ bs)
-    → (step d m e .answer ≡ a) × (answers (run (step d m e .dev) (step d m e .medium) es .replies) ≡ bs)
+pub first : (w : World) (e : Event) (es : List Event) (a : Answer) (bs : List Answer) → answers (run w (e ∷ es) .replies) ≡ (a ∷ bs)
+    → (step w e .answer ≡ a) × (answers (run (step w e .world) es .replies) ≡ bs)
 unfolding run answers
-first d m e es a bs h = (cc, cc)
+first w e es a bs h = (cc, cc)
 
-three : (d : Device) (m : List ℕ) (e f g : Event) (d₁ d₂ d₃ : Device) (x y z : List ℕ)
-    → (step d m e .answer ≡ Ack → step d m e ≡ out Ack d₁ m x)
-    → (step d₁ m f .answer ≡ Ack → step d₁ m f ≡ out Ack d₂ m y)
-    → (step d₂ m g .answer ≡ Ack → step d₂ m g ≡ out Ack d₃ m z)
-    → answers (run d m (e ∷ f ∷ g ∷ []) .replies) ≡ (Ack ∷ Ack ∷ Ack ∷ [])
-    → (run d m (e ∷ f ∷ g ∷ []) .dev ≡ d₃) × (run d m (e ∷ f ∷ g ∷ []) .medium ≡ m)
+three : (w : World) (e f g : Event) (w₁ w₂ w₃ : World) (x y z : List ℕ)
+    → (step w e .answer ≡ Ack → step w e ≡ out Ack w₁ x)
+    → (step w₁ f .answer ≡ Ack → step w₁ f ≡ out Ack w₂ y)
+    → (step w₂ g .answer ≡ Ack → step w₂ g ≡ out Ack w₃ z)
+    → answers (run w (e ∷ f ∷ g ∷ []) .replies) ≡ (Ack ∷ Ack ∷ Ack ∷ [])
+    → run w (e ∷ f ∷ g ∷ []) .world ≡ w₃
 unfolding run
-three d m e f g d₁ d₂ d₃ x y z l₁ l₂ l₃ h =
-    let a = first d m e (f ∷ g ∷ []) Ack (Ack ∷ Ack ∷ []) h in
-    let e₁ : step d m e ≡ out Ack d₁ m x = l₁ (a .0) in
-    let b = first d₁ m f (g ∷ []) Ack (Ack ∷ []) (rw e₁ at (a .1)) in
-    let e₂ : step d₁ m f ≡ out Ack d₂ m y = l₂ (b .0) in
-    let c = first d₂ m g [] Ack [] (rw e₂ at (b .1)) in
-    let e₃ : step d₂ m g ≡ out Ack d₃ m z = l₃ (c .0) in
-    (rw (e₁, e₂, e₃), rw (e₁, e₂, e₃))
+three w e f g w₁ w₂ w₃ x y z l₁ l₂ l₃ h =
+    let a = first w e (f ∷ g ∷ []) Ack (Ack ∷ Ack ∷ []) h in
+    let e₁ : step w e ≡ out Ack w₁ x = l₁ (a .0) in
+    let b = first w₁ f (g ∷ []) Ack (Ack ∷ []) (rw e₁ at (a .1)) in
+    let e₂ : step w₁ f ≡ out Ack w₂ y = l₂ (b .0) in
+    let c = first w₂ g [] Ack [] (rw e₂ at (b .1)) in
+    let e₃ : step w₂ g ≡ out Ack w₃ z = l₃ (c .0) in
+    rw (e₁, e₂, e₃)
 
-pub recovered : (d : Device) (m : List ℕ) (order : Bool) (x y z : List ℕ) → answers (run d m (recovery order x y z) .replies) ≡ (Ack ∷ Ack ∷ Ack ∷ [])
-    → (run d m (recovery order x y z) .dev ≡ dropped d (d .state .address) true false false) × (run d m (recovery order x y z) .medium ≡ m)
+pub recovered : (w : World) (order : Bool) (x y z : List ℕ) → answers (run w (recovery order x y z) .replies) ≡ (Ack ∷ Ack ∷ Ack ∷ [])
+    → run w (recovery order x y z) .world ≡ dropped w (w .dev .state .address) true false false
 unfolding recovery dropped droppedState withHalts haltIn haltOut if_then_else_
-recovered d m true x y z h =
-    three d m _ _ _ _ _ _ x y z (reset-acked d m x) (clear-in-acked (dropped d (d .state .address) true (d .state .link .haltin) (d .state .link .haltout)) m y)
-    (clear-out-acked (dropped d (d .state .address) true false (d .state .link .haltout)) m z) h
-recovered d m false x y z h =
-    three d m _ _ _ _ _ _ x y z (reset-acked d m x) (clear-out-acked (dropped d (d .state .address) true (d .state .link .haltin) (d .state .link .haltout)) m y)
-    (clear-in-acked (dropped d (d .state .address) true (d .state .link .haltin) false) m z) h
+recovered w true x y z h =
+    three w _ _ _ _ _ _ x y z (reset-acked w x) (clear-in-acked (dropped w (w .dev .state .address) true (w .dev .state .link .haltin) (w .dev .state .link .haltout)) y)
+    (clear-out-acked (dropped w (w .dev .state .address) true false (w .dev .state .link .haltout)) z) h
+recovered w false x y z h =
+    three w _ _ _ _ _ _ x y z (reset-acked w x) (clear-out-acked (dropped w (w .dev .state .address) true (w .dev .state .link .haltin) (w .dev .state .link .haltout)) y)
+    (clear-in-acked (dropped w (w .dev .state .address) true (w .dev .state .link .haltin) false) z) h
 
 -- an acked recovery was asked of a record that fits together
-pub recovery-fits : (d : Device) (m : List ℕ) (order : Bool) (x y z : List ℕ) → answers (run d m (recovery order x y z) .replies) ≡ (Ack ∷ Ack ∷ Ack ∷ [])
-    → fits (d .identity) (d .state) ≡ true
+pub recovery-fits : (w : World) (order : Bool) (x y z : List ℕ) → answers (run w (recovery order x y z) .replies) ≡ (Ack ∷ Ack ∷ Ack ∷ []) → fitting w ≡ true
 unfolding recovery
-recovery-fits d m true x y z h = acked d m _ x (first d m _ _ Ack _ h .0) .1
-recovery-fits d m false x y z h = acked d m _ x (first d m _ _ Ack _ h .0) .1
+recovery-fits w true x y z h = acked w _ x (first w _ _ Ack _ h .0) .1
+recovery-fits w false x y z h = acked w _ x (first w _ _ Ack _ h .0) .1
 
 -- ---- a fresh collector, given an address and configured
 
 -- a control request whose checks pass is performed
-pub control-passed : (d : Device) (m q b : List ℕ) → fits (d .identity) (d .state) ≡ true → 64 ≤ length b → length q ≡ 8
-    → step d m (control q b) ≡ beside m (perform (requestOf q) d b)
-unfolding step onControl checks check where-lent judged if_then_else_ inOrder
-control-passed d m q b f h k = simp (f, le-leb 64 (length b) h, eq-eqb (length q) 8 k)
+control-passed : (w : World) (q b : List ℕ) (r : Request) → fitting w ≡ true → 64 ≤ length b → length q ≡ 8 → requestOf q ≡ r → step w (control q b) ≡ perform r w b
+unfolding checks effect
+control-passed w q b r f h k e =
+    passes w (control q b) (record { fit = f; medium = refl; buffer = le-leb 64 (length b) h; packet = refl; setup = eq-eqb (length q) 8 k; configured = refl }) ∙ ap (λ (x : Request). perform x w b) e
 
-pub fits-fresh : (i : Identity) (n : ℕ) → sizeFits n ≡ true → numberFits (i .number) ≡ true → fits i (fresh i n .state) ≡ true
-unfolding fits fresh addressFits idleFits isReady isNoSense lockFits taskFits if_then_else_ _and_ outFits inFits
-fits-fresh i n small numbered = simp (small, numbered)
+-- what an event leaves fits again
+pub fits-after : (w w′ : World) (b : List ℕ) (e : Event) → fitting w ≡ true → step w e ≡ out Ack w′ b → fitting w′ ≡ true
+fits-after w w′ b e f h = fits-of w′ (subst (λ (o : Out). Fit (o .world)) h (stays-fit w (fit-of w f) e))
 
-module _ (i : Identity) (n a : ℕ) (x y : List ℕ) (m : List ℕ)
-    (small : sizeFits n ≡ true) (numbered : numberFits (i .number) ≡ true) (low : a ≤ 0x7F) (hx : 64 ≤ length x) (hy : 64 ≤ length y) where
-  fits-named : fits i (withAddress (fresh i n .state) a) ≡ true
-  unfolding fits fresh withAddress addressFits idleFits isReady isNoSense lockFits taskFits if_then_else_ _and_ outFits inFits
-  fits-named = simp (small, numbered, le-leb a 0x7F low)
+module _ (i : Identity) (us : Table) (m : List ℕ) (laid : laidOut us ≡ true) (plain : cleared us ≡ us) (numbered : numberFits (i .number) ≡ true) where
+  abbrev new : World
+  new = world (fresh i) us m
 
-  named : step (fresh i n) m (control (setup 0x00 0x05 a 0) x) ≡ out Ack (withState (fresh i n) (withAddress (fresh i n .state) a)) m x
-  unfolding perform fresh if_then_else_
-  named = control-passed (fresh i n) m (setup 0x00 0x05 a 0) x (fits-fresh i n small numbered) hx refl ∙ ap (λ (r : Request). beside m (perform r (fresh i n) x)) (read-address a low)
+  calm : every (λ u. isNoSense (u .sense)) us ≡ true
+  calm = subst (λ (t : Table). every (λ u. isNoSense (u .sense)) t ≡ true) plain (calm-cleared us)
 
-  configured : step (withState (fresh i n) (withAddress (fresh i n .state) a)) m (control (setup 0x00 0x09 1 0) y) ≡ out Ack (dropped (fresh i n) a true false false) m y
-  unfolding perform fresh dropped droppedState withAddress
-  configured =
-      control-passed (withState (fresh i n) (withAddress (fresh i n .state) a)) m (setup 0x00 0x09 1 0) y fits-named hy refl
-      ∙ ap (λ (r : Request). beside m (perform r (withState (fresh i n) (withAddress (fresh i n .state) a)) y)) read-configure
+  pub fits-fresh : fitting new ≡ true
+  unfolding fits fresh addressFits idleFits isReady lockFits taskFits lunFits stageFits if_then_else_ _and_
+  fits-fresh = simp (laid, numbered, calm)
 
-  pub set-up : run (fresh i n) m (settingUp a x y)
-      ≡ record {
-        replies = record { answer = Ack; buffer = x; medium = m } ∷ record { answer = Ack; buffer = y; medium = m } ∷ [];
-        dev = dropped (fresh i n) a true false false;
-        medium = m;
-      }
-  unfolding run settingUp
-  set-up = rw (named, configured)
+  module _ (a : ℕ) (x y : List ℕ) (low : a ≤ 0x7F) (hx : 64 ≤ length x) (hy : 64 ≤ length y) where
+    abbrev named : World
+    named = inState new (withAddress (fresh i .state) a)
+
+    addressed : step new (control (setup 0x00 0x05 a 0) x) ≡ out Ack named x
+    unfolding perform fresh if_then_else_
+    addressed = control-passed new _ x (SetAddress a) fits-fresh hx refl (read-address a low)
+
+    configured : step named (control (setup 0x00 0x09 1 0) y) ≡ out Ack (dropped new a true false false) y
+    unfolding perform fresh dropped droppedState withAddress
+    configured = control-passed named _ y (SetConfiguration 1) (fits-after new named x _ fits-fresh addressed) hy refl read-configure
+
+    pub set-up : run new (settingUp a x y)
+        ≡ record {
+          replies = record { answer = Ack; buffer = x; medium = m } ∷ record { answer = Ack; buffer = y; medium = m } ∷ [];
+          world = dropped new a true false false;
+        }
+    unfolding run settingUp dropped
+    set-up = rw (addressed, configured)
 
 -- ---- the recovery of a configured device whose record fits is acked, with buffers of 64 bytes or more
 
-module _ (d : Device) (m : List ℕ) (f : fits (d .identity) (d .state) ≡ true) (c : d .state .configured ≡ true) where
-  asks : (q b : List ℕ) (x : Request) (r : Reaction) → requestOf q ≡ x → perform x d b ≡ needsConfigured d b r → length q ≡ 8 → 64 ≤ length b
-      → step d m (control q b) ≡ beside m r
+module _ (w : World) (f : fitting w ≡ true) (c : w .dev .state .configured ≡ true) where
+  asks : (q b : List ℕ) (x : Request) (o : Out) → requestOf q ≡ x → perform x w b ≡ needsConfigured w b o → length q ≡ 8 → 64 ≤ length b → step w (control q b) ≡ o
   unfolding needsConfigured
-  asks q b x r e g n h =
-      control-passed d m q b f h n ∙ ap (λ (y : Request). beside m (perform y d b)) e ∙ ap (beside m) (g ∙ if-true _ _ _ c)
+  asks q b x o e g n h = control-passed w q b x f h n e ∙ g ∙ if-true _ _ _ c
 
-  pub resets : (b : List ℕ) → 64 ≤ length b → step d m (control (setup 0x21 0xFF 0 0) b) ≡ out Ack (dropped d (d .state .address) true (d .state .link .haltin) (d .state .link .haltout)) m b
+  pub resets : (b : List ℕ) → 64 ≤ length b → step w (control (setup 0x21 0xFF 0 0) b) ≡ out Ack (dropped w (w .dev .state .address) true (w .dev .state .link .haltin) (w .dev .state .link .haltout)) b
   unfolding perform
   resets b h = asks _ b MassStorageReset _ read-reset refl refl h
 
-  pub clears-in : (b : List ℕ) → 64 ≤ length b → step d m (control (setup 0x02 0x01 0 0x81) b) ≡ out Ack (withState d (haltIn false (d .state))) m b
+  pub clears-in : (b : List ℕ) → 64 ≤ length b → step w (control (setup 0x02 0x01 0 0x81) b) ≡ out Ack (inState w (haltIn false (w .dev .state))) b
   unfolding perform clearHalt
   clears-in b h = asks _ b (ClearHalt BulkIn) _ read-clear-in refl refl h
 
-  pub clears-out : (b : List ℕ) → 64 ≤ length b → step d m (control (setup 0x02 0x01 0 0x02) b) ≡ out Ack (withState d (haltOut false (d .state))) m b
+  pub clears-out : (b : List ℕ) → 64 ≤ length b → step w (control (setup 0x02 0x01 0 0x02) b) ≡ out Ack (inState w (haltOut false (w .dev .state))) b
   unfolding perform clearHalt
   clears-out b h = asks _ b (ClearHalt BulkOut) _ read-clear-out refl refl h

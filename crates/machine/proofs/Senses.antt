@@ -1,17 +1,14 @@
--- Every sense that a record holds, the unit's and one that a reply found, is of bytes, whatever the events. Assumes nothing.
+-- Every sense that a collector holds, its units' and one that a reply found, is of bytes, whatever the events. Assumes nothing.
 use Prim.Native.Nat.{ℕ}
 use mathlib.Core.List.{List}
 use Rattle.scsi.specs.Sense.{IsSense}
 use Rattle.scsi.specs.declared.sense.Sense.{Sense}
 use Rattle.scsi.proofs.Senses.{no-sense, data-phase, failing-bytes}
-use Rattle.usb.specs.declared.descriptor.Identity.{Identity}
 use Rattle.machine.specs.declared.record.Stage.{Stage}
-use Rattle.machine.specs.declared.record.State.{State}
-use Rattle.machine.specs.declared.record.Device.{Device}
-use Rattle.machine.specs.Making.{make}
+use Rattle.machine.specs.World.{World}
 use Rattle.machine.specs.Machine.{Event, step}
 use Rattle.machine.specs.Tally.{Making}
-use Rattle.machine.specs.Claim.{lived}
+use Rattle.machine.specs.Claim.{born, lived}
 use Rattle.machine.proofs.EverySense as every
 
 abbrev OfBytes : ℕ → Sense → Type 0
@@ -20,17 +17,17 @@ OfBytes blocks = IsSense
 abbrev pub StageSense : Stage → Type 0
 StageSense = every.StageSense IsSense
 
-abbrev pub Senses : State → Type 0
+abbrev pub Senses : World → Type 0
 Senses = every.Senses OfBytes
 
 made : every.Makes OfBytes
 made = record { none = λ blocks. no-sense; phase = λ blocks. data-phase; fails = failing-bytes }
 
-pub keeps-senses : (d : Device) (m : List ℕ) → Senses (d .state) → (e : Event) → Senses (step d m e .dev .state)
+pub keeps-senses : (w : World) → Senses w → (e : Event) → Senses (step w e .world)
 keeps-senses = every.keeps-senses OfBytes made
 
-pub made-senses : (i : Identity) (m : List ℕ) → Senses (make i m .dev .state)
+pub made-senses : (k : Making) → Senses (born k)
 made-senses = every.made-senses OfBytes made
 
-pub lived-senses : (k : Making) (es : List Event) → Senses (lived k es .dev .state)
+pub lived-senses : (k : Making) (es : List Event) → Senses (lived k es .world)
 lived-senses = every.lived-senses OfBytes made

@@ -1,62 +1,76 @@
--- What any event may leave: the laws of specs/Beside.antt about one step. Assumes nothing.
-use Prim.Native.Nat.{ℕ, _+_, _≤_, min}
+-- What any event may do. Proofs for which the event does not matter go by these cases, as do the laws of specs/Beside.antt about one step. Assumes nothing.
+use Prim.Native.Nat.{ℕ, _≤_, _<_, min}
 use mathlib.Core.Path.{_≡_, refl, sym, ap, _∙_, subst}
-use mathlib.Core.Bool.{Bool, true, false}
-use mathlib.Core.List.{List, [], _∷_, _++_}
+use mathlib.Core.Bool.{Bool, true}
+use mathlib.Core.List.{List, [], _++_}
 use native.Mathlib.Omega.{arith}
 use native.Mathlib.Nat.{zero-add}
-use lib.Dec.{leb, eqb}
-use lib.ListN.{length, take, drop, length-take}
-use borrow.Author.Tests.{leb-true}
-use Rattle.wire.specs.Numbers.{low, decimal}
-use Rattle.wire.specs.Texts.{ascii}
-use Rattle.wire.proofs.Cases.{by-if}
+use lib.ListN.{length, take, drop, set, length-take}
+use lib.Seq.{set-getD}
+use borrow.Author.Tests.{ltb-true}
+use Rattle.wire.specs.Numbers.{low}
+use Rattle.wire.proofs.Cases.{by-if, both}
 use Rattle.wire.proofs.Lists.{placed-yes}
-use Rattle.wire.proofs.Positional.{digits}
+use Rattle.scsi.specs.Sense.{noSense, dataPhase}
+use Rattle.bot.specs.Cbw.{headerOf}
 use Rattle.bot.specs.Csw.{cswBytes}
+use Rattle.bot.specs.declared.cbw.Header.{Header}
 use Rattle.bot.specs.declared.csw.Csw.{Csw}
-use Rattle.usb.specs.Descriptor.{deviceDescriptor, configurationDescriptor, utf16, stringDescriptor, descriptorData}
+use Rattle.bot.specs.declared.csw.Status.{Status}
+use Rattle.bot.specs.declared.csw.Status.the-variants as status
+use Rattle.scsi.specs.declared.sense.Sense.{Sense}
+use Rattle.scsi.specs.declared.reply.Reply.{Reply}
 use Rattle.usb.specs.Request.{requestOf}
-use Rattle.usb.specs.declared.descriptor.Identity.{Identity}
-use Rattle.usb.specs.declared.descriptor.Descriptor.{Descriptor}
-use Rattle.usb.specs.declared.descriptor.Descriptor.the-variants as descriptor
-use Rattle.usb.specs.declared.request.Endpoint.{Endpoint}
-use Rattle.usb.specs.declared.request.Endpoint.the-variants.{Control, BulkIn, BulkOut}
 use Rattle.usb.specs.declared.request.Request.{Request}
-use Rattle.usb.specs.declared.request.Request.the-variants.{SetAddress, SetConfiguration, GetConfiguration, GetDeviceStatus, GetInterfaceStatus, GetEndpointStatus, ClearHalt, SetHalt, MassStorageReset, GetMaxLun, GetDescriptor}
-use Rattle.usb.specs.declared.request.Request.the-variants as request
 use Rattle.machine.specs.declared.record.Stage.{Stage}
 use Rattle.machine.specs.declared.record.Stage.the-variants.{Ready, DataOut, DataIn, ReplyIn, StatusDue}
-use Rattle.machine.specs.declared.record.Device.{Device}
-use Rattle.machine.specs.declared.wrapper.Wrapper.{Wrapper}
-use Rattle.machine.specs.declared.wrapper.Wrapper.the-variants.{Broken, Good}
-use Rattle.machine.specs.declared.answer.Answer.the-variants.{Data, Ack, Nak, Stall}
-use Rattle.machine.specs.Outcome.{Reaction, reacts, sends, Effect}
-use Rattle.machine.specs.Control.{reset, needsConfigured, flag, endpointStatus, clearHalt, setHalt, perform}
-use Rattle.machine.specs.Wrapper.{wrapperOf}
-use Rattle.machine.specs.Bulk.{onWrapper, onData, outStage, packetOut, onAsk, onStatus, inStage, packetIn}
-use Rattle.machine.specs.Machine.{busReset, control, bulkOut, bulkIn, Lent, bytes, Inputs, where-lent, Verdict, judged, judgedOut, onReset, onControl, onBulkOut, onBulkIn, resetInputs, controlInputs, outInputs, inInputs, beside, unlent, step}
+use Rattle.machine.specs.declared.record.Task.{Task}
+use Rattle.machine.specs.declared.record.State.{State}
+use Rattle.machine.specs.declared.wrapper.Wrapper.the-variants.{Good}
+use Rattle.machine.specs.declared.ask.Source.{Source}
+use Rattle.machine.specs.declared.ask.Asked.{Asked}
+use Rattle.machine.specs.declared.answer.Answer.the-variants.{Data, Nak}
+use Rattle.machine.specs.Units.{Table, unit, unitAt, withSense, withPart}
+use Rattle.machine.specs.Record.{device, task, noTask, withHalts, withAddress, moved}
+use Rattle.machine.specs.World.{World, world, inState, dropped, Out, out, sends, UnitOut, inUnit}
+use Rattle.machine.specs.Wrapper.{accepted, planFor, wrapperOf}
+use Rattle.machine.specs.Control.{reset}
+use Rattle.machine.specs.Bulk.{lockedState, onWrapper, cutShort, gatheredState, gathered, nextOut, storedState, storedBlock, onData, outStage, packetOut, nextIn, handedState, nextPacket, afterStatus, askStage, ask, bytesOf, deliver, packetIn}
+use Rattle.machine.specs.Machine.{Event, busReset, control, bulkOut, bulkIn, lent, effect, step}
 use Rattle.machine.specs.Beside.{isQuiet, Lawful, unchanged, stalled, locked, handed, acked, StepLaws}
-use Rattle.machine.proofs.Judge.{Passed, judge}
+use Rattle.machine.proofs.Judge.{Passed, judge, in-room, control-room}
+use Rattle.machine.proofs.Requests.{Did, performs}
+use Rattle.machine.proofs.Requests as did
+
+-- ---- what may be left
+
+-- a stage within a command, and the one after it: no reply but the same
+pub data Next (g : Stage) : Stage → Type 0 where
+  same : Next g g
+  status-next : (x : Status) → Next g (StatusDue x)
+  block-next : (block left held : ℕ) → Next g (DataOut block left held)
+  byte-next : (place left : ℕ) → Next g (DataIn place left)
+  reply-next : (r : Reply) (place left place′ left′ : ℕ) → g ≡ ReplyIn r place left → Next g (ReplyIn r place′ left′)
+
+pub data Later (t : Task) : Task → Type 0 where
+  on : (g : Stage) (r : ℕ) → Next (t .stage) g → Later t (task g (t .lun) (t .tag) (t .announced) r)
+  over : Later t noTask
+
+-- the table with another sense of one unit
+abbrev pub sensedAt : Table → ℕ → Sense → Table
+sensedAt us n s = set us n (withSense (unitAt us n) s)
+
+pub data Changed (w : World) : World → Type 0 where
+  moves : (s : State) (p m : List ℕ) → Later (w .dev .state .link .task) (s .link .task) → Changed w (world (device (w .dev .identity) s p) (w .units) m)
+  drops : (a : ℕ) (c hi ho : Bool) → Changed w (dropped w a c hi ho)
+  begins : (h : Header) (b : List ℕ) → h .lun < length (w .units) → Changed w (onWrapper (Good h (planFor (unitAt (w .units) (h .lun)) b)) w .world)
+  cuts : (m : List ℕ) → Changed w (world (cutShort (w .dev)) (sensedAt (w .units) (w .dev .state .link .task .lun) dataPhase) m)
+
+-- what an event leaves of the collector w and the buffer b
+abbrev Does : World → List ℕ → Out → Type 0
+Does w b o = Lawful w b o × Changed w (o .world)
 
 -- ---- how long what is sent can be
-
-length-utf16 : (s : List ℕ) → length (utf16 s) ≡ length s + length s
-unfolding utf16
-length-utf16 [] = refl
-length-utf16 (c ∷ s) = let h = length-utf16 s in omega arith
-
-descriptor-short : (w : Descriptor) (i : Identity) → length (descriptorData w i) ≤ 64
-unfolding deviceDescriptor configurationDescriptor stringDescriptor low
-descriptor-short descriptor.Device i = omega arith
-descriptor-short descriptor.Configuration i = omega arith
-descriptor-short descriptor.Languages i = omega arith
-descriptor-short descriptor.Vendor i = omega (arith, length-utf16 (ascii "COLLECT"))
-descriptor-short descriptor.Product i = omega (arith, length-utf16 (ascii "METER EXPORT"))
-descriptor-short descriptor.Serial i = omega (arith, length-utf16 (decimal 12 (i .number)), digits .count 12 (i .number))
-
-take-short : (n k : ℕ) (s : List ℕ) → length s ≤ k → length (take n s) ≤ k
-take-short n k s h = let e = length-take n s in omega arith
 
 at-most : (n : ℕ) (s : List ℕ) → n ≤ 64 → length (take n s) ≤ 64
 at-most n s h = let e = length-take n s in omega arith
@@ -65,117 +79,112 @@ status-short : (c : Csw) → length (cswBytes c) ≤ 64
 unfolding cswBytes low
 status-short c = omega arith
 
-flag-short : (b : Bool) → length (flag b) ≤ 64
-unfolding flag
-flag-short true = omega arith
-flag-short false = omega arith
+-- an accepted wrapper is for a unit in the table
+pub listed : (us : Table) (p : List ℕ) → accepted (length us) p ≡ true → headerOf p .lun < length us
+unfolding accepted
+listed us p a = ltb-true _ _ (both _ _ (both _ _ a .1) .0)
 
--- ---- one event
+module _ (w : World) where
+  abbrev s : State
+  s = w .dev .state
 
-module _ (d : Device) (m : List ℕ) where
-  -- data is put in front of the buffer, which is long enough
-  sent : (b s : List ℕ) (d′ : Device) → 64 ≤ length b → length s ≤ 64 → Lawful d m b (beside m (sends s d′ b))
-  sent b s d′ hb hs =
-      subst (λ (x : List ℕ). Lawful d m b (beside m (reacts (Data (length s)) d′ x)))
-      (sym (placed-yes b 0 s (omega arith) ∙ ap (λ (n : ℕ). s ++ drop n b) (zero-add (length s)))) (handed d′ s hs hb)
+  kept : Later (s .link .task) (s .link .task)
+  kept = on _ _ same
 
-  -- ---- control requests
+  stays : Changed w w
+  stays = moves s _ _ kept
 
-  module _ (b : List ℕ) (hb : 64 ≤ length b) where
-    abbrev Answers : Reaction → Type 0
-    Answers r = Lawful d m b (beside m r)
+  naks : (b : List ℕ) → Does w b (out Nak w b)
+  unfolding isQuiet
+  naks b = (unchanged Nak refl, stays)
 
-    if-configured : (r : Reaction) → Answers r → Answers (needsConfigured d b r)
-    unfolding needsConfigured
-    if-configured r h = by-if Answers (d .state .configured) r _ (λ _. h) (λ _. stalled)
+  -- ---- a control request, an ask for a bulk-in packet
 
-    flagged : (x : Bool) → Answers (sends (flag x) d b)
-    flagged x = sent b (flag x) d hb (flag-short x)
+  module _ (b : List ℕ) (h : 64 ≤ length b) where
+    -- data is put in front of the buffer, which is long enough
+    sent : (x : List ℕ) (y : State) → length x ≤ 64 → Later (s .link .task) (y .link .task) → Does w b (sends x (inState w y) b)
+    sent x y n t =
+        let e = placed-yes b 0 x (omega arith) ∙ ap (λ (k : ℕ). x ++ drop k b) (zero-add (length x)) in
+        (subst (λ (l : List ℕ). Lawful w b (out (Data (length x)) (inState w y) l)) (sym e) (handed _ x n h), moves y _ _ t)
 
-    statuses : (e : Endpoint) → Answers (endpointStatus e d b)
-    unfolding endpointStatus
-    statuses Control = flagged false
-    statuses BulkIn = if-configured _ (flagged (d .state .link .haltin))
-    statuses BulkOut = if-configured _ (flagged (d .state .link .haltout))
+    requests : (q : Request) (o : Out) → Did w b q o → Does w b o
+    unfolding withHalts withAddress
+    requests q o did.stalls = (stalled, stays)
+    requests q o (did.sends x n) = sent x s n kept
+    requests q o (did.acks m) = (acked _, stays)
+    requests q o (did.halts hi ho m c k) = (acked _, moves _ _ _ kept)
+    requests q o (did.addresses a c) = (acked _, moves _ _ _ kept)
+    requests q o (did.configures v) = (acked _, drops _ _ _ _)
+    requests q o (did.resets c) = (acked _, drops _ _ _ _)
 
-    clears : (e : Endpoint) → Answers (clearHalt e d b)
-    unfolding clearHalt
-    clears Control = acked d m
-    clears BulkIn = if-configured _ (acked _ m)
-    clears BulkOut = if-configured _ (acked _ m)
+    abbrev Hands : Asked → Type 0
+    Hands a = Does w b (deliver a w b)
 
-    sets : (e : Endpoint) → Answers (setHalt e d b)
-    unfolding setHalt
-    sets Control = stalled
-    sets BulkIn = if-configured _ (acked _ m)
-    sets BulkOut = if-configured _ (acked _ m)
+    packets : (left : ℕ) (x : Source) (more : Stage) → length (bytesOf x w) ≤ 64 → Next (s .link .task .stage) more → Hands (nextPacket s left x more)
+    unfolding nextPacket deliver handedState moved nextIn
+    packets left x more n g = by-if Hands _ _ _ (λ _. naks b) (λ _. sent _ _ n (on _ _ (by-if (Next (s .link .task .stage)) _ _ _ (λ _. status-next _) (λ _. g))))
 
-    performs : (r : Request) → Answers (perform r d b)
-    unfolding perform
-    performs (SetAddress a) = by-if Answers (d .state .configured) _ _ (λ _. stalled) (λ _. acked _ m)
-    performs (SetConfiguration v) = acked _ m
-    performs GetConfiguration = sent b _ d hb (omega arith)
-    performs GetDeviceStatus = flagged true
-    performs GetInterfaceStatus = if-configured _ (flagged false)
-    performs (GetEndpointStatus x) = statuses x
-    performs (ClearHalt x) = clears x
-    performs (SetHalt x) = sets x
-    performs MassStorageReset = if-configured _ (acked _ m)
-    performs GetMaxLun = if-configured _ (sent b (0x00 ∷ []) d hb (omega arith))
-    performs (GetDescriptor which n) = sent b _ d hb (take-short n 64 _ (descriptor-short which (d .identity)))
-    performs request.Stall = stalled
+    after : (x : Status) → Later (s .link .task) (afterStatus x s .link .task)
+    unfolding afterStatus lockedState withHalts moved
+    after status.Passed = over
+    after status.Failed = over
+    after status.PhaseError = over
 
-    -- ---- an ask for a bulk-in packet
-
-    asks : (x : List ℕ) (place left : ℕ) (more : Stage) → Answers (onAsk d x place left more b)
-    unfolding onAsk isQuiet
-    asks x place left more = by-if Answers (eqb left 0) _ _ (λ _. unchanged Nak refl) (λ _. sent b _ _ hb (at-most (min 64 left) (drop place x) (omega arith)))
-
-    ins : (g : Stage) → Answers (inStage g d m b)
-    unfolding inStage onStatus isQuiet
-    ins Ready = unchanged Nak refl
-    ins (DataOut block left held) = unchanged Nak refl
-    ins (DataIn place left) = asks m place left _
-    ins (ReplyIn reply place left) = asks _ place left _
-    ins (StatusDue x) = sent b _ _ hb (status-short _)
+    asks : (g : Stage) → s .link .task .stage ≡ g → Hands (askStage g s)
+    unfolding askStage deliver bytesOf
+    asks Ready e = naks b
+    asks (DataOut block left held) e = naks b
+    asks (DataIn place left) e = packets left _ _ (at-most (min 64 left) _ (omega arith)) (byte-next _ _)
+    asks (ReplyIn r place left) e = packets left _ _ (at-most (min 64 left) _ (omega arith)) (reply-next r _ _ _ _ e)
+    asks (StatusDue x) e = sent _ _ (status-short _) (after x)
 
   -- ---- a bulk-out packet
 
-  module _ (p : List ℕ) where
-    abbrev Takes : Effect → Type 0
-    Takes r = Lawful d m [] (unlent r)
+  abbrev Takes : Out → Type 0
+  Takes = Does w []
 
-    wrappers : (w : Wrapper) → Takes (onWrapper w d m)
-    unfolding onWrapper
-    wrappers Broken = locked
-    wrappers (Good h x) = acked _ m
+  -- a unit that stays
+  in-unit : (n : ℕ) (x : State) (p m : List ℕ) → Later (s .link .task) (x .link .task)
+      → Changed w (world (device (w .dev .identity) x p) (set (w .units) n (unitAt (w .units) n)) m)
+  in-unit n x p m t =
+      subst (λ (us : Table). Changed w (world (device (w .dev .identity) x p) us m)) (sym (set-getD (w .units) n (unit 0 0 noSense))) (moves x p m t)
 
-    datas : (block left held : ℕ) → Takes (onData d m block left held p)
-    unfolding onData
-    datas block left held = by-if Takes _ _ _ (λ _. by-if Takes _ _ _ (λ _. acked _ m) (λ _. acked _ _)) (λ _. acked _ m)
+  datas : (block left held : ℕ) (p : List ℕ) → Takes (inUnit w (s .link .task .lun) (onData block left held p))
+  unfolding inUnit onData gathered gatheredState storedBlock storedState moved nextOut
+  datas block left held p =
+      by-if In _ _ _ (λ _. by-if In _ _ _ (λ _. (acked _, in-unit _ _ _ _ (on _ _ (block-next _ _ _)))) (λ _. (acked _, in-unit _ _ _ _ (on _ _ stored))))
+      (λ _. (acked _, cuts _))
+    where
+      In : UnitOut → Type 0
+      In r =
+          let n = s .link .task .lun in
+          Takes (out (r .answer) (world (r .dev) (set (w .units) n (r .unit)) (withPart (unitAt (w .units) n) (w .medium) (r .medium))) [])
 
-    outs : (g : Stage) → Takes (outStage g d m p)
-    unfolding outStage isQuiet
-    outs Ready = wrappers (wrapperOf (d .state .unit .blocks) p)
-    outs (DataOut block left held) = by-if Takes _ _ _ (λ _. unchanged Nak refl) (λ _. datas block left held)
-    outs (DataIn place left) = unchanged Nak refl
-    outs (ReplyIn reply place left) = unchanged Nak refl
-    outs (StatusDue x) = unchanged Nak refl
+      stored : Next (s .link .task .stage) (nextOut block left)
+      stored = by-if (Next _) _ _ _ (λ _. status-next _) (λ _. block-next _ _ _)
 
-  long : {i : Inputs} {b : List ℕ} → i .buffer ≡ bytes b → Passed d i → 64 ≤ length b
-  unfolding where-lent
-  long {i} {b} e x = leb-true 64 (length b) (subst (λ (l : Lent). where-lent l (λ c. leb 64 (length c)) ≡ true) e (x .buffer))
+  outs : (g : Stage) (p : List ℕ) → Takes (outStage g w p)
+  unfolding outStage onWrapper wrapperOf lockedState withHalts
+  outs Ready p = by-if (λ x. Takes (onWrapper x w)) _ _ _ (λ a. (acked _, begins _ _ (listed (w .units) p a))) (λ _. (locked, moves _ _ _ kept))
+  outs (DataOut block left held) p = by-if Takes _ _ _ (λ _. naks []) (λ _. datas block left held p)
+  outs (DataIn place left) p = naks []
+  outs (ReplyIn r place left) p = naks []
+  outs (StatusDue x) p = naks []
+
+  passed : (e : Event) → Passed w e → Does w (lent e) (effect w e)
+  unfolding lent effect reset packetOut packetIn ask deliver
+  passed busReset x = (acked _, drops _ _ _ _)
+  passed (control q b) x = requests b (control-room q b x) _ _ (performs w b (requestOf q))
+  passed (bulkOut p) x = by-if Takes (s .link .haltout) _ _ (λ _. (stalled, stays)) (λ _. outs (s .link .task .stage) p)
+  passed (bulkIn b) x =
+      let h = in-room b b x in
+      by-if (Hands b h) (s .link .haltin) _ _ (λ _. (stalled, stays)) (λ _. asks b h (s .link .task .stage) refl)
+
+  does : (e : Event) → Does w (lent e) (step w e)
+  does e = judge (Does w (lent e)) w e (λ a x. (unchanged a (x .still), stays)) (passed e)
+
+  pub changes : (e : Event) → Changed w (step w e .world)
+  changes e = does e .1
 
 pub step-laws : StepLaws
-unfolding step onReset onControl onBulkOut onBulkIn judged judgedOut packetOut packetIn
-step-laws d m busReset =
-    judge (λ (v : Verdict). Lawful d m [] (beside m (judged v d [] (reacts Ack (reset d) [])))) d resetInputs (λ a x. unchanged a (x .still)) (λ _. acked _ m)
-step-laws d m (control q b) =
-    judge (λ (v : Verdict). Lawful d m b (beside m (judged v d b (perform (requestOf q) d b)))) d (controlInputs q b) (λ a x. unchanged a (x .still))
-    (λ x. performs d m b (long d m refl x) (requestOf q))
-step-laws d m (bulkOut p) =
-    judge (λ (v : Verdict). Lawful d m [] (unlent (judgedOut v d m (packetOut d m p)))) d (outInputs m p) (λ a x. unchanged a (x .still))
-    (λ x. by-if (λ (r : Effect). Lawful d m [] (unlent r)) (d .state .link .haltout) _ _ (λ _. stalled) (λ _. outs d m p (d .state .link .task .stage)))
-step-laws d m (bulkIn b) =
-    judge (λ (v : Verdict). Lawful d m b (beside m (judged v d b (packetIn d m b)))) d (inInputs m b) (λ a x. unchanged a (x .still))
-    (λ x. by-if (λ (r : Reaction). Lawful d m b (beside m r)) (d .state .link .haltin) _ _ (λ _. stalled) (λ _. ins d m b (long d m refl x) (d .state .link .task .stage)))
+step-laws w e = does w e .0

@@ -26,8 +26,8 @@ use Rattle.machine.specs.declared.record.Stage.{Stage}
 use Rattle.machine.specs.declared.record.Stage.the-variants.{DataOut, DataIn, ReplyIn, StatusDue}
 use Rattle.machine.specs.declared.record.LogicalUnit.{LogicalUnit}
 use Rattle.machine.specs.declared.record.State.{State}
+use Rattle.machine.specs.Units.{blockSize, withSense}
 use Rattle.machine.specs.Record.{moved, task}
-use Rattle.machine.specs.Fits.{blockSize}
 
 -- What the host announces; the direction at length 0 is ignored by the cases themselves.
 unfoldable pub hostOf : Header → Transfer
@@ -99,13 +99,16 @@ unfoldable pub staged : Ending → Transfer → Plan → LogicalUnit → Stage
 staged ending.Command t p u = firstStage t p u
 staged ending.PhaseError t p u = StatusDue status.PhaseError
 
-unfoldable pub begunBy : Case → Header → Plan → State → State
-begunBy c h p s =
+unfoldable pub begunBy : Case → Header → Plan → State → LogicalUnit → State
+begunBy c h p s u =
     moved s
-    (sensed (c .ending) p (s .unit .sense))
     (haltsIn (c .halt) (s .link .haltin))
     (haltsOut (c .halt) (s .link .haltout))
-    (task (staged (c .ending) (c .moves) p (s .unit)) (h .tag) (h .announced) (h .announced))
+    (task (staged (c .ending) (c .moves) p u) (h .lun) (h .tag) (h .announced) (h .announced))
 
-unfoldable pub begun : Header → Plan → State → State
-begun h p s = begunBy (caseOf (hostOf h) (hasOf p)) h p s
+-- The state that a command begins with, and its unit.
+unfoldable pub begun : Header → Plan → State → LogicalUnit → State
+begun h p s u = begunBy (caseOf (hostOf h) (hasOf p)) h p s u
+
+unfoldable pub begunUnit : Header → Plan → LogicalUnit → LogicalUnit
+begunUnit h p u = withSense u (sensed (caseOf (hostOf h) (hasOf p) .ending) p (u .sense))

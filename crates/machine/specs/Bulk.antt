@@ -1,16 +1,18 @@
 -- Bulk packets (document 01, "Wrappers" and "The thirteen meetings of host and device"), once their checks are passed.
 use Prim.Native.Nat.{ℕ, _+_, _*_, _-_, min}
 use mathlib.Core.Bool.{Bool, true}
-use mathlib.Core.List.{List}
+use mathlib.Core.List.{List, []}
 use lib.Dec.{leb, ltb, eqb}
-use lib.ListN.{length, take, drop}
+use lib.ListN.{length, take, drop, set}
 use Rattle.wire.specs.Choice.{if_then_else_}
 use Rattle.wire.specs.Slices.{zeros, placed}
 use Rattle.scsi.specs.Reply.{replyData}
 use Rattle.scsi.specs.Sense.{dataPhase}
 use Rattle.bot.specs.Csw.{cswBytes}
+use Rattle.bot.specs.declared.csw.Csw.{Csw}
 use Rattle.bot.specs.declared.csw.Status.{Status}
 use Rattle.bot.specs.declared.csw.Status.the-variants.{Passed, Failed, PhaseError}
+use Rattle.machine.specs.declared.record.LogicalUnit.{LogicalUnit}
 use Rattle.machine.specs.declared.record.Stage.{Stage}
 use Rattle.machine.specs.declared.record.Stage.the-variants.{Ready, DataOut, DataIn, ReplyIn, StatusDue}
 use Rattle.machine.specs.declared.record.Task.{Task}
@@ -18,12 +20,16 @@ use Rattle.machine.specs.declared.record.State.{State}
 use Rattle.machine.specs.declared.record.Device.{Device}
 use Rattle.machine.specs.declared.wrapper.Wrapper.{Wrapper}
 use Rattle.machine.specs.declared.wrapper.Wrapper.the-variants.{Broken, Good}
+use Rattle.machine.specs.declared.ask.Source.{Source}
+use Rattle.machine.specs.declared.ask.Source.the-variants as source
+use Rattle.machine.specs.declared.ask.Asked.{Asked}
+use Rattle.machine.specs.declared.ask.Asked.the-variants.{Quiet, Packet}
 use Rattle.machine.specs.declared.answer.Answer.the-variants.{Ack, Nak, Stall}
+use Rattle.machine.specs.Units.{blockSize, unitAt, withSense, partOf}
 use Rattle.machine.specs.Record.{device, task, noTask, withHalts, moved, withState}
-use Rattle.machine.specs.Fits.{blockSize}
+use Rattle.machine.specs.World.{World, world, inState, Out, out, sends, UnitOut, unitOut, inUnit}
 use Rattle.machine.specs.Wrapper.{wrapperOf}
-use Rattle.machine.specs.Begin.{begun}
-use Rattle.machine.specs.Outcome.{Reaction, reacts, sends, Effect, effects}
+use Rattle.machine.specs.Begin.{begun, begunUnit}
 
 abbrev pub packetSize : ℕ
 packetSize = 64
@@ -34,17 +40,19 @@ packetSize = 64
 unfoldable pub lockedState : State → State
 lockedState s = withHalts s true true true
 
-unfoldable pub onWrapper : Wrapper → Device → List ℕ → Effect
-onWrapper Broken d m = effects Stall (withState d (lockedState (d .state))) m
-onWrapper (Good h p) d m = effects Ack (withState d (begun h p (d .state))) m
+unfoldable pub onWrapper : Wrapper → World → Out
+onWrapper Broken w = out Stall (inState w (lockedState (w .dev .state))) []
+onWrapper (Good h p) w =
+    let u = unitAt (w .units) (h .lun) in
+    out Ack (world (withState (w .dev) (begun h p (w .dev .state) u)) (set (w .units) (h .lun) (begunUnit h p u)) (w .medium)) []
 
 -- The task with another stage and residue.
 abbrev pub onward : State → Stage → ℕ → Task
-onward s g r = task g (s .link .task .tag) (s .link .task .announced) r
+onward s g r = task g (s .link .task .lun) (s .link .task .tag) (s .link .task .announced) r
 
 -- "Data-out of any length but 64: its bytes and the part block dropped, bulk-out halted, status 2, sense 0B/4B/00."
 unfoldable pub cutState : State → State
-cutState s = moved s dataPhase (s .link .haltin) true (onward s (StatusDue PhaseError) (s .link .task .residue))
+cutState s = moved s (s .link .haltin) true (onward s (StatusDue PhaseError) (s .link .task .residue))
 
 unfoldable pub cutShort : Device → Device
 cutShort d = device (d .identity) (cutState (d .state)) (zeros blockSize)
@@ -52,7 +60,7 @@ cutShort d = device (d .identity) (cutState (d .state)) (zeros blockSize)
 -- A packet that does not fill its block.
 unfoldable pub gatheredState : State → ℕ → ℕ → ℕ → State
 gatheredState s block left held =
-    moved s (s .unit .sense) (s .link .haltin) (s .link .haltout) (onward s (DataOut block left (held + packetSize)) (s .link .task .residue))
+    moved s (s .link .haltin) (s .link .haltout) (onward s (DataOut block left (held + packetSize)) (s .link .task .residue))
 
 unfoldable pub gathered : Device → ℕ → ℕ → ℕ → List ℕ → Device
 gathered d block left held p = device (d .identity) (gatheredState (d .state) block left held) (placed (d .part) held p)
@@ -67,32 +75,34 @@ haltAtEnd last residue before = if last then (if ltb 0 residue then true else be
 unfoldable pub storedState : State → ℕ → ℕ → State
 storedState s block left =
     let r = s .link .task .residue - blockSize in
-    moved s (s .unit .sense) (s .link .haltin) (haltAtEnd (leb left 1) r (s .link .haltout)) (onward s (nextOut block left) r)
+    moved s (s .link .haltin) (haltAtEnd (leb left 1) r (s .link .haltout)) (onward s (nextOut block left) r)
 
 unfoldable pub storedBlock : Device → ℕ → ℕ → Device
 storedBlock d block left = device (d .identity) (storedState (d .state) block left) (zeros blockSize)
 
-unfoldable pub onData : Device → List ℕ → ℕ → ℕ → ℕ → List ℕ → Effect
-onData d m block left held p =
+-- Of one unit: m is its own part of the medium, and the block's number is the unit's own.
+unfoldable pub onData : ℕ → ℕ → ℕ → List ℕ → Device → LogicalUnit → List ℕ → UnitOut
+onData block left held p d u m =
     if eqb (length p) packetSize
     then (if ltb (held + packetSize) blockSize
-    then effects Ack (gathered d block left held p) m
-    else effects Ack (storedBlock d block left) (placed m (blockSize * block) (placed (d .part) held p)))
-    else effects Ack (cutShort d) m
+    then unitOut Ack (gathered d block left held p) u m
+    else unitOut Ack (storedBlock d block left) u (placed m (blockSize * block) (placed (d .part) held p)))
+    else unitOut Ack (cutShort d) (withSense u dataPhase) m
 
 -- "bulk-out naks unless a wrapper or data is due"; a write with no block left has none due.
-unfoldable pub outStage : Stage → Device → List ℕ → List ℕ → Effect
-outStage Ready d m p = onWrapper (wrapperOf (d .state .unit .blocks) p) d m
-outStage (DataOut block left held) d m p = if eqb left 0 then effects Nak d m else onData d m block left held p
-outStage (DataIn place left) d m p = effects Nak d m
-outStage (ReplyIn reply place left) d m p = effects Nak d m
-outStage (StatusDue status) d m p = effects Nak d m
+unfoldable pub outStage : Stage → World → List ℕ → Out
+outStage Ready w p = onWrapper (wrapperOf (w .units) p) w
+outStage (DataOut block left held) w p =
+    if eqb left 0 then out Nak w [] else inUnit w (w .dev .state .link .task .lun) (onData block left held p)
+outStage (DataIn place left) w p = out Nak w []
+outStage (ReplyIn reply place left) w p = out Nak w []
+outStage (StatusDue status) w p = out Nak w []
 
 -- "Once the checks are passed, a halted pipe stalls, before any other rule."
-unfoldable pub packetOut : Device → List ℕ → List ℕ → Effect
-packetOut d m p = if d .state .link .haltout then effects Stall d m else outStage (d .state .link .task .stage) d m p
+unfoldable pub packetOut : World → List ℕ → Out
+packetOut w p = if w .dev .state .link .haltout then out Stall w [] else outStage (w .dev .state .link .task .stage) w p
 
--- ---- bulk-in
+-- ---- bulk-in: what an ask comes to, and then the bytes
 
 -- The state once n bytes are handed out, of which these were the last or not; "Data-in packets hold min(64, what is left)".
 unfoldable pub nextIn : ℕ → Stage → Stage
@@ -101,35 +111,43 @@ nextIn left more = if leb left packetSize then StatusDue Passed else more
 unfoldable pub handedState : State → ℕ → ℕ → Stage → State
 handedState s n left more =
     let r = s .link .task .residue - n in
-    moved s (s .unit .sense) (haltAtEnd (leb left packetSize) r (s .link .haltin)) (s .link .haltout) (onward s (nextIn left more) r)
+    moved s (haltAtEnd (leb left packetSize) r (s .link .haltin)) (s .link .haltout) (onward s (nextIn left more) r)
 
-unfoldable pub handedOut : Device → ℕ → ℕ → Stage → Device
-handedOut d n left more = withState d (handedState (d .state) n left more)
-
--- The next packet of the bytes s, from a place on.
-unfoldable pub onAsk : Device → List ℕ → ℕ → ℕ → Stage → List ℕ → Reaction
-onAsk d s place left more b =
-    if eqb left 0 then reacts Nak d b
-    else sends (take (min packetSize left) (drop place s)) (handedOut d (min packetSize left) left more) b
+-- The next packet of a source; none, where nothing is left of it.
+unfoldable pub nextPacket : State → ℕ → Source → Stage → Asked
+nextPacket s left x more = if eqb left 0 then Quiet Nak else Packet x (handedState s (min packetSize left) left more)
 
 -- "After status 0 or 1 a wrapper is due." "A handed-out phase error status, answered 0, locks it too."
 unfoldable pub afterStatus : Status → State → State
-afterStatus Passed s = moved s (s .unit .sense) (s .link .haltin) (s .link .haltout) noTask
-afterStatus Failed s = moved s (s .unit .sense) (s .link .haltin) (s .link .haltout) noTask
-afterStatus PhaseError s = lockedState (moved s (s .unit .sense) (s .link .haltin) (s .link .haltout) noTask)
+afterStatus Passed s = moved s (s .link .haltin) (s .link .haltout) noTask
+afterStatus Failed s = moved s (s .link .haltin) (s .link .haltout) noTask
+afterStatus PhaseError s = lockedState (moved s (s .link .haltin) (s .link .haltout) noTask)
 
-unfoldable pub onStatus : Status → Device → List ℕ → Reaction
-onStatus status d b =
-    let t = d .state .link .task in
-    sends (cswBytes (record { tag = t .tag; residue = t .residue; status = status })) (withState d (afterStatus status (d .state))) b
+abbrev pub cswOf : Task → Status → Csw
+cswOf t status = record { tag = t .tag; residue = t .residue; status = status }
 
 -- "bulk-in [naks] unless data or status is due"
-unfoldable pub inStage : Stage → Device → List ℕ → List ℕ → Reaction
-inStage Ready d m b = reacts Nak d b
-inStage (DataOut block left held) d m b = reacts Nak d b
-inStage (DataIn place left) d m b = onAsk d m place left (DataIn (place + packetSize) (left - packetSize)) b
-inStage (ReplyIn reply place left) d m b = onAsk d (replyData (d .identity .number) reply) place left (ReplyIn reply (place + packetSize) (left - packetSize)) b
-inStage (StatusDue status) d m b = onStatus status d b
+unfoldable pub askStage : Stage → State → Asked
+askStage Ready s = Quiet Nak
+askStage (DataOut block left held) s = Quiet Nak
+askStage (DataIn place left) s =
+    nextPacket s left (source.Medium place (min packetSize left)) (DataIn (place + packetSize) (left - packetSize))
+askStage (ReplyIn reply place left) s =
+    nextPacket s left (source.Reply reply place (min packetSize left)) (ReplyIn reply (place + packetSize) (left - packetSize))
+askStage (StatusDue status) s = Packet (source.Status (cswOf (s .link .task) status)) (afterStatus status s)
 
-unfoldable pub packetIn : Device → List ℕ → List ℕ → Reaction
-packetIn d m b = if d .state .link .haltin then reacts Stall d b else inStage (d .state .link .task .stage) d m b
+unfoldable pub ask : State → Asked
+ask s = if s .link .haltin then Quiet Stall else askStage (s .link .task .stage) s
+
+-- The bytes where they stand: a unit's in its own part of the medium.
+unfoldable pub bytesOf : Source → World → List ℕ
+bytesOf (source.Medium place n) w = take n (drop place (partOf (unitAt (w .units) (w .dev .state .link .task .lun)) (w .medium)))
+bytesOf (source.Reply reply place n) w = take n (drop place (replyData (w .dev .identity .number) reply))
+bytesOf (source.Status csw) w = cswBytes csw
+
+unfoldable pub deliver : Asked → World → List ℕ → Out
+deliver (Quiet a) w b = out a w b
+deliver (Packet x s) w b = sends (bytesOf x w) (inState w s) b
+
+unfoldable pub packetIn : World → List ℕ → Out
+packetIn w b = deliver (ask (w .dev .state)) w b

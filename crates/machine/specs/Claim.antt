@@ -12,12 +12,12 @@ use Rattle.usb.specs.Request.{requestOf}
 use Rattle.usb.specs.declared.request.Request.{Request}
 use Rattle.usb.specs.declared.request.Request.the-variants.{SetAddress, SetConfiguration, GetConfiguration, GetDeviceStatus, GetInterfaceStatus, GetEndpointStatus, ClearHalt, SetHalt, MassStorageReset, GetMaxLun, GetDescriptor}
 use Rattle.usb.specs.declared.request.Request.the-variants as request
-use Rattle.machine.specs.declared.record.Device.{Device}
 use Rattle.machine.specs.declared.answer.Answer.{Answer}
 use Rattle.machine.specs.declared.answer.Answer.the-variants.{Ack, Nak, Stall}
 use Rattle.machine.specs.Answer.{numberOf}
 use Rattle.machine.specs.Making.{make}
 use Rattle.machine.specs.Wrapper.{accepted}
+use Rattle.machine.specs.World.{World, world}
 use Rattle.machine.specs.Machine.{Event, busReset, control, bulkOut, bulkIn, Seen, Run, step, run}
 use Rattle.machine.specs.Tally.{Making, Log, start, isAck, noted, observed, stored}
 
@@ -27,13 +27,19 @@ unfoldable pub answers : List Seen → List Answer
 answers [] = []
 answers (r ∷ rs) = r .answer ∷ answers rs
 
--- What the collector of a making has come to after the events.
+-- What a making leaves, and what its collector has come to after the events.
+unfoldable pub born : Making → World
+born k = let r = make (k .identity) (k .medium) in world (r .dev) (r .units) (k .medium)
+
+abbrev pub Makes : Making → Type 0
+Makes k = make (k .identity) (k .medium) .answer ≡ Ack
+
 unfoldable pub lived : Making → List Event → Run
-lived k es = run (make (k .identity) (k .medium) .dev) (k .medium) es
+lived k es = run (born k) es
 
 -- What the history of that says.
 unfoldable pub history : Making → List Event → Log
-history k es = observed (noted k) start es (answers (lived k es .replies))
+history k es = observed noted (start k) es (answers (lived k es .replies))
 
 -- ---- the requests that the demand names, as setup bytes (document 01, "Control requests")
 
@@ -51,33 +57,37 @@ settingUp a x y = control (setup 0x00 0x05 a 0) x ∷ control (setup 0x00 0x09 1
 
 -- ---- a wrapper is due on an unhalted pipe
 
--- A good Test Unit Ready wrapper announcing 0.
-unfoldable pub goodTest : List ℕ → Bool
-goodTest w = accepted w and eqb (byteAt w 15) 0x00 and eqb (headerOf w .announced) 0
+-- A good Test Unit Ready wrapper announcing 0, for one of so many units.
+unfoldable pub goodTest : ℕ → List ℕ → Bool
+goodTest count p = accepted count p and eqb (byteAt p 15) 0x00 and eqb (headerOf p .announced) 0
 
 -- "exactly where a good Test Unit Ready wrapper announcing 0, sent twice there, is answered ack, then nak": some such wrapper.
-unfoldable pub WrapperDue : Device → List ℕ → Type 0
-WrapperDue d m = (w : List ℕ) × (goodTest w ≡ true) × (answers (run d m (bulkOut w ∷ bulkOut w ∷ []) .replies) ≡ (Ack ∷ Nak ∷ []))
+unfoldable pub WrapperDue : World → Type 0
+WrapperDue w =
+    (p : List ℕ) × (goodTest (length (w .units)) p ≡ true) × (answers (run w (bulkOut p ∷ bulkOut p ∷ []) .replies) ≡ (Ack ∷ Nak ∷ []))
 
 -- ---- the first half: recovery
 
--- A collector that came to the run r is as a fresh one of the making's identity over the medium that r left, given the address a and configured.
+-- A fresh collector of the making's identity, over the medium that is left.
+abbrev pub anew : Making → Run → Making
+anew k r = record { identity = k .identity; medium = r .world .medium }
+
+-- A collector that came to the run r is as that one, given the address a and configured.
 pub record AsFresh (k : Making) (a : ℕ) (r : Run) (x y : List ℕ) : Type 0 where
-  pub makes : make (k .identity) (r .medium) .answer ≡ Ack
-  pub sets-up : answers (lived (record { identity = k .identity; medium = r .medium }) (settingUp a x y) .replies) ≡ (Ack ∷ Ack ∷ [])
-  pub keeps : lived (record { identity = k .identity; medium = r .medium }) (settingUp a x y) .medium ≡ r .medium
-  pub further : (fs : List Event)
-      → run (r .dev) (r .medium) fs ≡ run (lived (record { identity = k .identity; medium = r .medium }) (settingUp a x y) .dev) (r .medium) fs
+  pub makes : Makes (anew k r)
+  pub sets-up : answers (lived (anew k r) (settingUp a x y) .replies) ≡ (Ack ∷ Ack ∷ [])
+  pub keeps : lived (anew k r) (settingUp a x y) .world .medium ≡ r .world .medium
+  pub further : (fs : List Event) → run (r .world) fs ≡ run (lived (anew k r) (settingUp a x y) .world) fs
 
 -- "the medium is the starting one changed by exactly the blocks whose 512 bytes all arrived"
 unfoldable pub MediumFromHistory : Making → List Event → Type 0
-MediumFromHistory k es = lived k es .medium ≡ stored (k .medium) (history k es .arrived)
+MediumFromHistory k es = lived k es .world .medium ≡ stored (history k es .units) (k .medium) (history k es .arrived)
 
 unfoldable pub Recovers : Making → List Event → Type 0
 Recovers k es =
     history k es .configured ≡ true
     → (order : Bool) (x y z : List ℕ)
-    → answers (run (lived k es .dev) (lived k es .medium) (recovery order x y z) .replies) ≡ (Ack ∷ Ack ∷ Ack ∷ [])
+    → answers (run (lived k es .world) (recovery order x y z) .replies) ≡ (Ack ∷ Ack ∷ Ack ∷ [])
     → MediumFromHistory k (es ++ recovery order x y z)
     × ((x′ y′ : List ℕ) → 64 ≤ length x′ → 64 ≤ length y′ → AsFresh k (history k es .address) (lived k (es ++ recovery order x y z)) x′ y′)
 
@@ -128,27 +138,23 @@ watch w e a = record { ended = w .ended || ends e a; shut = w .shut and shutAt e
 unfoldable pub watched : List Event → List Answer → Watch
 watched es said = observed watch (record { ended = false; shut = true }) es said
 
--- After the packet p at this record and medium, with no acked drop among the events gs.
-pub record StaysShut (d : Device) (m p : List ℕ) (gs : List Event) : Type 0 where
-  pub stalls : step d m (bulkOut p) .answer ≡ Stall
-  pub pipes : watched gs (answers (run (step d m (bulkOut p) .dev) (step d m (bulkOut p) .medium) gs .replies)) .shut ≡ true
-  pub medium : run d m (bulkOut p ∷ gs) .medium ≡ m
+-- After the packet p, with no acked drop among the events gs.
+pub record StaysShut (w : World) (p : List ℕ) (gs : List Event) : Type 0 where
+  pub stalls : step w (bulkOut p) .answer ≡ Stall
+  pub pipes : watched gs (answers (run (step w (bulkOut p) .world) gs .replies)) .shut ≡ true
+  pub medium : run w (bulkOut p ∷ gs) .world .medium ≡ w .medium
 
-unfoldable pub Locks : Device → List ℕ → Type 0
-Locks d m =
+unfoldable pub Locks : World → Type 0
+Locks w =
     (p : List ℕ)
-    → accepted p ≡ false
-    → isRefusal (step d m (bulkOut p) .answer) ≡ false
-    → WrapperDue d m
+    → accepted (length (w .units)) p ≡ false
+    → isRefusal (step w (bulkOut p) .answer) ≡ false
+    → WrapperDue w
     → (gs : List Event)
-    → watched gs (answers (run (step d m (bulkOut p) .dev) (step d m (bulkOut p) .medium) gs .replies)) .ended ≡ false
-    → StaysShut d m p gs
+    → watched gs (answers (run (step w (bulkOut p) .world) gs .replies)) .ended ≡ false
+    → StaysShut w p gs
 
 -- ---- demand 3
 
 unfoldable pub Demand3 : Type 0
-Demand3 =
-    (k : Making)
-    → make (k .identity) (k .medium) .answer ≡ Ack
-    → (es : List Event)
-    → Recovers k es × Locks (lived k es .dev) (lived k es .medium)
+Demand3 = (k : Making) → Makes k → (es : List Event) → Recovers k es × Locks (lived k es .world)

@@ -1,9 +1,9 @@
 -- Bus reset and control requests (document 01, "Control requests"), once their checks are passed. Neither is lent a medium.
-use Prim.Native.Nat.{ℕ}
+use Prim.Native.Nat.{ℕ, _-_}
 use mathlib.Core.Bool.{Bool, true, false}
 use mathlib.Core.List.{List, [], _∷_}
 use lib.Dec.{eqb}
-use lib.ListN.{take}
+use lib.ListN.{length, take}
 use Rattle.wire.specs.Choice.{if_then_else_}
 use Rattle.usb.specs.Descriptor.{descriptorData}
 use Rattle.usb.specs.declared.request.Endpoint.{Endpoint}
@@ -12,28 +12,27 @@ use Rattle.usb.specs.declared.request.Request.{Request}
 use Rattle.usb.specs.declared.request.Request.the-variants.{SetAddress, SetConfiguration, GetConfiguration, GetDeviceStatus, GetInterfaceStatus, GetEndpointStatus, ClearHalt, SetHalt, MassStorageReset, GetMaxLun, GetDescriptor}
 use Rattle.usb.specs.declared.request.Request.the-variants as request
 use Rattle.machine.specs.declared.record.State.{State}
-use Rattle.machine.specs.declared.record.Device.{Device}
 use Rattle.machine.specs.declared.answer.Answer.the-variants.{Ack, Stall}
-use Rattle.machine.specs.Record.{withHalts, dropped, withAddress, withState}
-use Rattle.machine.specs.Outcome.{Reaction, reacts, sends}
+use Rattle.machine.specs.Record.{withHalts, withAddress}
+use Rattle.machine.specs.World.{World, inState, dropped, Out, out, sends}
 
 -- "A bus reset drops it too, clears halts, address and configuration."
-unfoldable pub reset : Device → Device
-reset d = dropped d 0 false false false
+unfoldable pub reset : World → World
+reset w = dropped w 0 false false false
 
 -- "C needs a configured device"; any other request stalls and changes nothing.
-unfoldable pub needsConfigured : Device → List ℕ → Reaction → Reaction
-needsConfigured d b r = if d .state .configured then r else reacts Stall d b
+unfoldable pub needsConfigured : World → List ℕ → Out → Out
+needsConfigured w b o = if w .dev .state .configured then o else out Stall w b
 
 -- a flag as the two bytes of a status (USB 2.0, 9.4.5)
 unfoldable pub flag : Bool → List ℕ
 flag true = 0x01 ∷ 0x00 ∷ []
 flag false = 0x00 ∷ 0x00 ∷ []
 
-unfoldable pub endpointStatus : Endpoint → Device → List ℕ → Reaction
-endpointStatus Control d b = sends (flag false) d b
-endpointStatus BulkIn d b = needsConfigured d b (sends (flag (d .state .link .haltin)) d b)
-endpointStatus BulkOut d b = needsConfigured d b (sends (flag (d .state .link .haltout)) d b)
+unfoldable pub endpointStatus : Endpoint → World → List ℕ → Out
+endpointStatus Control w b = sends (flag false) w b
+endpointStatus BulkIn w b = needsConfigured w b (sends (flag (w .dev .state .link .haltin)) w b)
+endpointStatus BulkOut w b = needsConfigured w b (sends (flag (w .dev .state .link .haltout)) w b)
 
 -- "Clear Feature acks without clearing until a command drop": a locked device keeps both halts, whatever is asked.
 unfoldable pub haltIn : Bool → State → State
@@ -42,28 +41,29 @@ haltIn on s = withHalts s (if s .link .locked then true else on) (s .link .halto
 unfoldable pub haltOut : Bool → State → State
 haltOut on s = withHalts s (s .link .haltin) (if s .link .locked then true else on) (s .link .locked)
 
-unfoldable pub clearHalt : Endpoint → Device → List ℕ → Reaction
-clearHalt Control d b = reacts Ack d b
-clearHalt BulkIn d b = needsConfigured d b (reacts Ack (withState d (haltIn false (d .state))) b)
-clearHalt BulkOut d b = needsConfigured d b (reacts Ack (withState d (haltOut false (d .state))) b)
+unfoldable pub clearHalt : Endpoint → World → List ℕ → Out
+clearHalt Control w b = out Ack w b
+clearHalt BulkIn w b = needsConfigured w b (out Ack (inState w (haltIn false (w .dev .state))) b)
+clearHalt BulkOut w b = needsConfigured w b (out Ack (inState w (haltOut false (w .dev .state))) b)
 
-unfoldable pub setHalt : Endpoint → Device → List ℕ → Reaction
-setHalt Control d b = reacts Stall d b
-setHalt BulkIn d b = needsConfigured d b (reacts Ack (withState d (haltIn true (d .state))) b)
-setHalt BulkOut d b = needsConfigured d b (reacts Ack (withState d (haltOut true (d .state))) b)
+unfoldable pub setHalt : Endpoint → World → List ℕ → Out
+setHalt Control w b = out Stall w b
+setHalt BulkIn w b = needsConfigured w b (out Ack (inState w (haltIn true (w .dev .state))) b)
+setHalt BulkOut w b = needsConfigured w b (out Ack (inState w (haltOut true (w .dev .state))) b)
 
-unfoldable pub perform : Request → Device → List ℕ → Reaction
-perform (SetAddress a) d b =
-    if d .state .configured then reacts Stall d b else reacts Ack (withState d (withAddress (d .state) a)) b
-perform (SetConfiguration v) d b = reacts Ack (dropped d (d .state .address) (eqb v 1) false false) b
-perform GetConfiguration d b = sends ((if d .state .configured then 0x01 else 0x00) ∷ []) d b
-perform GetDeviceStatus d b = sends (flag true) d b
-perform GetInterfaceStatus d b = needsConfigured d b (sends (flag false) d b)
-perform (GetEndpointStatus e) d b = endpointStatus e d b
-perform (ClearHalt e) d b = clearHalt e d b
-perform (SetHalt e) d b = setHalt e d b
-perform MassStorageReset d b =
-    needsConfigured d b (reacts Ack (dropped d (d .state .address) true (d .state .link .haltin) (d .state .link .haltout)) b)
-perform GetMaxLun d b = needsConfigured d b (sends (0x00 ∷ []) d b)
-perform (GetDescriptor which n) d b = sends (take n (descriptorData which (d .identity))) d b
-perform request.Stall d b = reacts Stall d b
+unfoldable pub perform : Request → World → List ℕ → Out
+perform (SetAddress a) w b =
+    if w .dev .state .configured then out Stall w b else out Ack (inState w (withAddress (w .dev .state) a)) b
+perform (SetConfiguration v) w b = out Ack (dropped w (w .dev .state .address) (eqb v 1) false false) b
+perform GetConfiguration w b = sends ((if w .dev .state .configured then 0x01 else 0x00) ∷ []) w b
+perform GetDeviceStatus w b = sends (flag true) w b
+perform GetInterfaceStatus w b = needsConfigured w b (sends (flag false) w b)
+perform (GetEndpointStatus e) w b = endpointStatus e w b
+perform (ClearHalt e) w b = clearHalt e w b
+perform (SetHalt e) w b = setHalt e w b
+perform MassStorageReset w b =
+    needsConfigured w b (out Ack (dropped w (w .dev .state .address) true (w .dev .state .link .haltin) (w .dev .state .link .haltout)) b)
+-- the highest unit of the table (BOT 3.2)
+perform GetMaxLun w b = needsConfigured w b (sends ((length (w .units) - 1) ∷ []) w b)
+perform (GetDescriptor which n) w b = sends (take n (descriptorData which (w .dev .identity))) w b
+perform request.Stall w b = out Stall w b

@@ -1,4 +1,4 @@
--- Number 10: when a record fits together (document 01, "Numbers that come back"). The part block is free.
+-- Number 10: when a record and its table fit together (document 01, "Numbers that come back"). The part block is free.
 use Prim.Native.Nat.{ℕ, _+_, _*_, _%_}
 use mathlib.Core.Bool.{Bool, true, false, not}
 use lib.Dec.{leb, ltb, eqb}
@@ -8,18 +8,10 @@ use Rattle.scsi.specs.Reply.{kindOf, replySize}
 use Rattle.usb.specs.declared.descriptor.Identity.{Identity}
 use Rattle.machine.specs.declared.record.Stage.{Stage}
 use Rattle.machine.specs.declared.record.Stage.the-variants.{Ready, DataOut, DataIn, ReplyIn, StatusDue}
+use Rattle.machine.specs.declared.record.Task.{Task}
 use Rattle.machine.specs.declared.record.Link.{Link}
 use Rattle.machine.specs.declared.record.State.{State}
-
--- "1 to 1,048,576 blocks in a lent medium" (document 01, amended by document 02, A5), of 512 bytes each
-abbrev pub mostBlocks : ℕ
-mostBlocks = 1048576
-
-abbrev pub blockSize : ℕ
-blockSize = 512
-
-unfoldable pub sizeFits : ℕ → Bool
-sizeFits n = leb 1 n and leb n mostBlocks
+use Rattle.machine.specs.Units.{blockSize, Table, unitAt, inTable, every, laidOut}
 
 -- "collector number and address in range"
 unfoldable pub numberFits : ℕ → Bool
@@ -35,16 +27,16 @@ isReady (DataIn place left) = false
 isReady (ReplyIn reply place left) = false
 isReady (StatusDue status) = false
 
--- "unconfigured means ready, unhalted, unlocked, sense zero"
-unfoldable pub idleFits : State → Bool
-idleFits s =
+-- "unconfigured means ready, unhalted, unlocked, sense zero": every unit's
+unfoldable pub idleFits : State → Table → Bool
+idleFits s us =
     if s .configured
     then true
     else isReady (s .link .task .stage)
     and not (s .link .haltin)
     and not (s .link .haltout)
     and not (s .link .locked)
-    and isNoSense (s .unit .sense)
+    and every (λ u. isNoSense (u .sense)) us
 
 -- "locked means both pipes halted"
 unfoldable pub lockFits : Link → Bool
@@ -65,18 +57,29 @@ outFits blocks block left held announced residue =
 unfoldable pub inFits : ℕ → ℕ → ℕ → ℕ → ℕ → Bool
 inFits size place left announced residue = leb (place + left) size and leb left residue and leb residue announced
 
-unfoldable pub taskFits : ℕ → Stage → ℕ → ℕ → Bool
-taskFits blocks Ready announced residue = true
-taskFits blocks (DataOut block left held) announced residue = outFits blocks block left held announced residue
-taskFits blocks (DataIn place left) announced residue = inFits (blockSize * blocks) place left announced residue
-taskFits blocks (ReplyIn reply place left) announced residue = inFits (replySize (kindOf reply)) place left announced residue
-taskFits blocks (StatusDue status) announced residue = leb residue announced
+unfoldable pub stageFits : ℕ → Stage → ℕ → ℕ → Bool
+stageFits blocks Ready announced residue = true
+stageFits blocks (DataOut block left held) announced residue = outFits blocks block left held announced residue
+stageFits blocks (DataIn place left) announced residue = inFits (blockSize * blocks) place left announced residue
+stageFits blocks (ReplyIn reply place left) announced residue = inFits (replySize (kindOf reply)) place left announced residue
+stageFits blocks (StatusDue status) announced residue = leb residue announced
 
-unfoldable pub fits : Identity → State → Bool
-fits i s =
-    sizeFits (s .unit .blocks)
+-- A transfer of blocks is of a unit in the table.
+unfoldable pub lunFits : Stage → ℕ → Table → Bool
+lunFits Ready n us = true
+lunFits (DataOut block left held) n us = inTable n us
+lunFits (DataIn place left) n us = inTable n us
+lunFits (ReplyIn reply place left) n us = true
+lunFits (StatusDue status) n us = true
+
+unfoldable pub taskFits : Table → Task → Bool
+taskFits us t = lunFits (t .stage) (t .lun) us and stageFits (unitAt us (t .lun) .blocks) (t .stage) (t .announced) (t .residue)
+
+unfoldable pub fits : Identity → State → Table → Bool
+fits i s us =
+    laidOut us
     and numberFits (i .number)
     and addressFits (s .address)
-    and idleFits s
+    and idleFits s us
     and lockFits (s .link)
-    and taskFits (s .unit .blocks) (s .link .task .stage) (s .link .task .announced) (s .link .task .residue)
+    and taskFits us (s .link .task)

@@ -15,10 +15,12 @@ use Rattle.machine.specs.declared.record.Stage.{Stage}
 use Rattle.machine.specs.declared.record.Stage.the-variants.{Ready, DataOut, DataIn, ReplyIn, StatusDue}
 use Rattle.machine.specs.declared.record.Task.{Task}
 use Rattle.machine.specs.declared.record.State.{State}
-use Rattle.machine.specs.declared.record.Device.{Device}
-use Rattle.machine.specs.Fits.{blockSize, fits}
+use Rattle.machine.specs.declared.record.LogicalUnit.{LogicalUnit}
+use Rattle.machine.specs.Units.{blockSize}
+use Rattle.machine.specs.World.{World}
 use Rattle.machine.specs.Begin.{hostOf, hasOf, begun}
 use Rattle.machine.specs.Bulk.{packetSize, packetOut, packetIn}
+use Rattle.machine.specs.Machine.{fitting}
 
 -- Bytes still due of a stage's data, and the residue that will be left once they have moved.
 unfoldable pub due : Stage → ℕ
@@ -64,10 +66,10 @@ pub record GoesOn (before after : Task) (halted : Bool) : Type 0 where
 
 pub record HaltAfterData : Type 0 where
   -- A wrapper whose data moves: its case halts after data exactly if the residue at the end is over 0.
-  pub begins : (h : Header) (p : Plan) (s : State) → moves (caseOf (hostOf h) (hasOf p) .moves) ≡ true
-      → isAfterData (caseOf (hostOf h) (hasOf p) .halt) ≡ ltb 0 (residueAtEnd (begun h p s .link .task))
-  pub sends : (d : Device) (m b : List ℕ) → fits (d .identity) (d .state) ≡ true → d .state .link .haltin ≡ false → isSending (d .state .link .task .stage) ≡ true
-      → GoesOn (d .state .link .task) (packetIn d m b .dev .state .link .task) (packetIn d m b .dev .state .link .haltin)
-  pub takes : (d : Device) (m p : List ℕ) → fits (d .identity) (d .state) ≡ true → d .state .link .haltout ≡ false → isTaking (d .state .link .task .stage) ≡ true
+  pub begins : (h : Header) (p : Plan) (s : State) (u : LogicalUnit) → moves (caseOf (hostOf h) (hasOf p) .moves) ≡ true
+      → isAfterData (caseOf (hostOf h) (hasOf p) .halt) ≡ ltb 0 (residueAtEnd (begun h p s u .link .task))
+  pub sends : (w : World) (b : List ℕ) → fitting w ≡ true → w .dev .state .link .haltin ≡ false → isSending (w .dev .state .link .task .stage) ≡ true
+      → GoesOn (w .dev .state .link .task) (packetIn w b .world .dev .state .link .task) (packetIn w b .world .dev .state .link .haltin)
+  pub takes : (w : World) (p : List ℕ) → fitting w ≡ true → w .dev .state .link .haltout ≡ false → isTaking (w .dev .state .link .task .stage) ≡ true
       → length p ≡ packetSize
-      → GoesOn (d .state .link .task) (packetOut d m p .dev .state .link .task) (packetOut d m p .dev .state .link .haltout)
+      → GoesOn (w .dev .state .link .task) (packetOut w p .world .dev .state .link .task) (packetOut w p .world .dev .state .link .haltout)

@@ -8,7 +8,7 @@ use Rattle.scsi.specs.Reply.{replyData}
 use Rattle.scsi.specs.Sense.{outOfRange}
 use Rattle.scsi.specs.declared.command.Plan.the-variants.{Failed, Read}
 use Rattle.scsi.specs.declared.reply.Reply.the-variants.{Capacity}
-use Rattle.machine.specs.Fits.{blockSize, mostBlocks, sizeFits}
+use Rattle.machine.specs.Units.{blockSize, mostBlocks, sizeFits}
 use Rattle.machine.specs.Bulk.{packetSize}
 use Rattle.machine.specs.Sheet.{onBlocks}
 

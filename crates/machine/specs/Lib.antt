@@ -1,9 +1,10 @@
 pub mod Answer
+pub mod Units
 pub mod Record
 pub mod Fits
+pub mod World
 pub mod Wrapper
 pub mod Making
-pub mod Outcome
 pub mod Control
 pub mod Begin
 pub mod Bulk

@@ -1,18 +1,20 @@
 -- The specification machine: the checks, one event, a list of events.
-use Prim.Native.Nat.{ℕ, _*_}
+use Prim.Native.Nat.{ℕ}
 use mathlib.Core.Bool.{Bool, true, false}
 use mathlib.Core.List.{List, [], _∷_}
 use lib.Dec.{leb, eqb}
 use lib.ListN.{length}
-use Rattle.wire.specs.Choice.{if_then_else_}
 use Rattle.usb.specs.Request.{requestOf}
-use Rattle.machine.specs.declared.record.Device.{Device}
 use Rattle.machine.specs.declared.answer.Answer.{Answer}
 use Rattle.machine.specs.declared.answer.Answer.the-variants.{Ack, Silent, Refused}
 use Rattle.machine.specs.declared.answer.Refusal.the-variants as refusal
+use Rattle.machine.specs.declared.checks.Checks.{Checks}
+use Rattle.machine.specs.declared.checks.Verdict.{Verdict}
+use Rattle.machine.specs.declared.checks.Verdict.the-variants.{Passes, Refuses}
 use Rattle.machine.specs.Answer.{numberOf, countOf}
-use Rattle.machine.specs.Fits.{blockSize, fits}
-use Rattle.machine.specs.Outcome.{Reaction, reacts, Effect, effects}
+use Rattle.machine.specs.Units.{mediumFits}
+use Rattle.machine.specs.Fits.{fits}
+use Rattle.machine.specs.World.{World, Out, out}
 use Rattle.machine.specs.Control.{reset, perform}
 use Rattle.machine.specs.Bulk.{packetSize, packetOut, packetIn}
 
@@ -23,119 +25,81 @@ pub data Event : Type 0 where
   bulkOut : List ℕ → Event
   bulkIn : List ℕ → Event
 
+-- The buffer that an event lends; none counts as empty.
+unfoldable pub lent : Event → List ℕ
+lent busReset = []
+lent (control s b) = b
+lent (bulkOut p) = []
+lent (bulkIn b) = b
+
 -- ---- the checks, in their order: "10, 11, 12, 13, 14, 4, each only where the event has that input"
 
--- What a call is lent.
-pub data Lent : Type 0 where
-  nothing : Lent
-  bytes : List ℕ → Lent
+abbrev pub fitting : World → Bool
+fitting w = fits (w .dev .identity) (w .dev .state) (w .units)
 
-pub record Inputs : Type 0 where
-  pub medium : Lent
-  pub buffer : Lent
-  pub packet : Lent
-  pub setup : Lent
-  pub bulk : Bool
-
-unfoldable pub where-lent : Lent → (List ℕ → Bool) → Bool
-where-lent nothing test = true
-where-lent (bytes s) test = test s
+unfoldable pub checks : World → Event → Checks
+checks w busReset = record { fits = fitting w; medium = true; buffer = true; packet = true; setup = true; configured = true }
+checks w (control s b) =
+    record { fits = fitting w; medium = true; buffer = leb packetSize (length b); packet = true; setup = eqb (length s) 8; configured = true }
+checks w (bulkOut p) =
+    record {
+      fits = fitting w;
+      medium = mediumFits (w .units) (w .medium);
+      buffer = true;
+      packet = leb (length p) packetSize;
+      setup = true;
+      configured = w .dev .state .configured;
+    }
+checks w (bulkIn b) =
+    record {
+      fits = fitting w;
+      medium = mediumFits (w .units) (w .medium);
+      buffer = leb packetSize (length b);
+      packet = true;
+      setup = true;
+      configured = w .dev .state .configured;
+    }
 
 -- The answer of the first test that fails, or none.
-pub data Verdict : Type 0 where
-  passes : Verdict
-  refuses : Answer → Verdict
-
 unfoldable pub check : Bool → Answer → Verdict → Verdict
 check true a v = v
-check false a v = refuses a
+check false a v = Refuses a
 
-unfoldable pub inOrder : Bool → Bool → Bool → Bool → Bool → Bool → Verdict
-inOrder fit medium buffer packet setup configured =
-    check fit (Refused refusal.Record)
-    (check medium (Refused refusal.Medium)
-    (check buffer (Refused refusal.Buffer)
-    (check packet (Refused refusal.Packet)
-    (check setup (Refused refusal.Setup)
-    (check configured Silent passes)))))
-
-unfoldable pub checks : Device → Inputs → Verdict
-checks d i =
-    inOrder
-    (fits (d .identity) (d .state))
-    (where-lent (i .medium) (λ m. eqb (length m) (blockSize * d .state .unit .blocks)))
-    (where-lent (i .buffer) (λ b. leb packetSize (length b)))
-    (where-lent (i .packet) (λ p. leb (length p) packetSize))
-    (where-lent (i .setup) (λ s. eqb (length s) 8))
-    (if i .bulk then d .state .configured else true)
-
-abbrev pub resetInputs : Inputs
-resetInputs = record { medium = nothing; buffer = nothing; packet = nothing; setup = nothing; bulk = false }
-
-abbrev pub controlInputs : List ℕ → List ℕ → Inputs
-controlInputs s b = record { medium = nothing; buffer = bytes b; packet = nothing; setup = bytes s; bulk = false }
-
-abbrev pub outInputs : List ℕ → List ℕ → Inputs
-outInputs m p = record { medium = bytes m; buffer = nothing; packet = bytes p; setup = nothing; bulk = true }
-
-abbrev pub inInputs : List ℕ → List ℕ → Inputs
-inInputs m b = record { medium = bytes m; buffer = bytes b; packet = nothing; setup = nothing; bulk = true }
+unfoldable pub inOrder : Checks → Verdict
+inOrder c =
+    check (c .fits) (Refused refusal.Record)
+    (check (c .medium) (Refused refusal.Medium)
+    (check (c .buffer) (Refused refusal.Buffer)
+    (check (c .packet) (Refused refusal.Packet)
+    (check (c .setup) (Refused refusal.Setup)
+    (check (c .configured) Silent Passes)))))
 
 -- ---- one event
 
-unfoldable pub judged : Verdict → Device → List ℕ → Reaction → Reaction
-judged passes d b r = r
-judged (refuses a) d b r = reacts a d b
+-- Once the checks are passed.
+unfoldable pub effect : World → Event → Out
+effect w busReset = out Ack (reset w) []
+effect w (control s b) = perform (requestOf s) w b
+effect w (bulkOut p) = packetOut w p
+effect w (bulkIn b) = packetIn w b
 
-unfoldable pub judgedOut : Verdict → Device → List ℕ → Effect → Effect
-judgedOut passes d m r = r
-judgedOut (refuses a) d m r = effects a d m
+-- A refusal changes nothing.
+unfoldable pub judged : Verdict → World → List ℕ → Out → Out
+judged Passes w b o = o
+judged (Refuses a) w b o = out a w b
 
--- Neither of the first two is lent a medium.
-unfoldable pub onReset : Device → Reaction
-onReset d = judged (checks d resetInputs) d [] (reacts Ack (reset d) [])
-
-unfoldable pub onControl : Device → List ℕ → List ℕ → Reaction
-onControl d s b = judged (checks d (controlInputs s b)) d b (perform (requestOf s) d b)
-
-unfoldable pub onBulkOut : Device → List ℕ → List ℕ → Effect
-onBulkOut d m p = judgedOut (checks d (outInputs m p)) d m (packetOut d m p)
-
-unfoldable pub onBulkIn : Device → List ℕ → List ℕ → Reaction
-onBulkIn d m b = judged (checks d (inInputs m b)) d b (packetIn d m b)
-
--- All that an event leaves.
-pub record Out : Type 0 where
-  pub answer : Answer
-  pub dev : Device
-  pub medium : List ℕ
-  pub buffer : List ℕ
-
-abbrev pub out : Answer → Device → List ℕ → List ℕ → Out
-out a d m b = record { answer = a; dev = d; medium = m; buffer = b }
-
-abbrev pub beside : List ℕ → Reaction → Out
-beside m r = out (r .answer) (r .dev) m (r .buffer)
-
-abbrev pub unlent : Effect → Out
-unlent r = out (r .answer) (r .dev) (r .medium) []
-
-unfoldable pub step : Device → List ℕ → Event → Out
-step d m busReset = beside m (onReset d)
-step d m (control s b) = beside m (onControl d s b)
-step d m (bulkOut p) = unlent (onBulkOut d m p)
-step d m (bulkIn b) = beside m (onBulkIn d m b)
+unfoldable pub step : World → Event → Out
+step w e = judged (inOrder (checks w e)) w (lent e) (effect w e)
 
 -- The same by document 01's numbers: what the contracts say.
 pub record Told : Type 0 where
   pub number : ℕ
   pub count : ℕ
-  pub dev : Device
-  pub medium : List ℕ
+  pub world : World
   pub buffer : List ℕ
 
 abbrev pub told : Out → Told
-told o = record { number = numberOf (o .answer); count = countOf (o .answer); dev = o .dev; medium = o .medium; buffer = o .buffer }
+told o = record { number = numberOf (o .answer); count = countOf (o .answer); world = o .world; buffer = o .buffer }
 
 -- ---- a list of events
 
@@ -146,16 +110,15 @@ pub record Seen : Type 0 where
   pub medium : List ℕ
 
 abbrev pub seen : Out → Seen
-seen o = record { answer = o .answer; buffer = o .buffer; medium = o .medium }
+seen o = record { answer = o .answer; buffer = o .buffer; medium = o .world .medium }
 
 pub record Run : Type 0 where
   pub replies : List Seen
-  pub dev : Device
-  pub medium : List ℕ
+  pub world : World
 
-unfoldable pub run : Device → List ℕ → List Event → Run
-run d m [] = record { replies = []; dev = d; medium = m }
-run d m (e ∷ es) =
-    let o : Out = step d m e in
-    let r : Run = run (o .dev) (o .medium) es in
-    record { replies = seen o ∷ r .replies; dev = r .dev; medium = r .medium }
+unfoldable pub run : World → List Event → Run
+run w [] = record { replies = []; world = w }
+run w (e ∷ es) =
+    let o : Out = step w e in
+    let r : Run = run (o .world) es in
+    record { replies = seen o ∷ r .replies; world = r .world }

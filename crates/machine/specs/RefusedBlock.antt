@@ -10,9 +10,10 @@ use Rattle.scsi.specs.Sense.{isOutOfRange}
 use Rattle.scsi.specs.declared.sense.Sense.{Sense}
 use Rattle.scsi.specs.declared.command.Plan.the-variants.{Failed}
 use Rattle.scsi.specs.declared.reply.Reply.the-variants as reply
+use Rattle.bot.specs.Cbw.{headerOf}
 use Rattle.machine.specs.declared.record.Stage.the-variants.{ReplyIn}
-use Rattle.machine.specs.declared.record.State.{State}
-use Rattle.machine.specs.declared.record.Device.{Device}
+use Rattle.machine.specs.Units.{unitAt}
+use Rattle.machine.specs.World.{World}
 use Rattle.machine.specs.Machine.{Event, busReset, control, bulkOut, step}
 use Rattle.machine.specs.Tally.{Making}
 use Rattle.machine.specs.Claim.{setup, lived}
@@ -23,7 +24,7 @@ use Rattle.machine.specs.Sheet.{Exchange, Row, row, testUnitReady, onBlo
 
 -- A failed command leaves its sense, whatever it announced: a range failure its block too.
 abbrev pub SenseLeft : Type 0
-SenseLeft = (d : Device) (m w : List ℕ) (s : Sense) → Accepts d m w (Failed s) → step d m (bulkOut w) .dev .state .unit .sense ≡ s
+SenseLeft = (w : World) (p : List ℕ) (s : Sense) → Accepts w p (Failed s) → unitAt (step w (bulkOut p) .world .units) (headerOf p .lun) .sense ≡ s
 
 -- ---- every list of events
 
@@ -31,13 +32,14 @@ SenseLeft = (d : Device) (m w : List ℕ) (s : Sense) → Accepts d m w (Failed 
 unfoldable pub carries : ℕ → Sense → Bool
 carries blocks s = if isOutOfRange s then leb blocks (s .information) else eqb (s .information) 0
 
--- Of every sense that a collector comes to hold: its unit's, and the one that a Request Sense under way has found.
-pub record Carries (s : State) : Type 0 where
-  pub unit : carries (s .unit .blocks) (s .unit .sense) ≡ true
-  pub found : (n : Sense) (place left : ℕ) → s .link .task .stage ≡ ReplyIn (reply.Sense n) place left → carries (s .unit .blocks) n ≡ true
+-- Of every sense that a collector comes to hold: each unit's, and the one that a Request Sense under way has found.
+pub record Carries (w : World) : Type 0 where
+  pub units : (n : ℕ) → carries (unitAt (w .units) n .blocks) (unitAt (w .units) n .sense) ≡ true
+  pub found : (n : Sense) (place left : ℕ) → w .dev .state .link .task .stage ≡ ReplyIn (reply.Sense n) place left
+      → carries (unitAt (w .units) (w .dev .state .link .task .lun) .blocks) n ≡ true
 
 abbrev pub BlocksCarried : Type 0
-BlocksCarried = (k : Making) (es : List Event) → Carries (lived k es .dev .state)
+BlocksCarried = (k : Making) (es : List Event) → Carries (lived k es .world)
 
 -- ---- examples on the bench sheet's 128 blocks, as rows of its kind
 

@@ -11,6 +11,7 @@ use Rattle.usb.specs.Descriptor.{utf16}
 use Rattle.usb.specs.declared.descriptor.Identity.{Identity}
 use Rattle.machine.specs.Answer.{numberOf, countOf}
 use Rattle.machine.specs.Making.{make}
+use Rattle.machine.specs.World.{world}
 use Rattle.machine.specs.Machine.{Event, control, bulkOut, bulkIn, Seen, run}
 use Rattle.machine.specs.Claim.{setup}
 
@@ -205,7 +206,7 @@ pub record Outcome : Type 0 where
 unfoldable pub outcome : Row → Outcome
 outcome r =
     let k = make (identity (r .collector)) medium in
-    record { made = numberOf (k .answer); replies = told (run (k .dev) medium (events (r .exchanges)) .replies) }
+    record { made = numberOf (k .answer); replies = told (run (world (k .dev) (k .units) medium) (events (r .exchanges)) .replies) }
 
 unfoldable pub wanted : Row → Outcome
 wanted r = record { made = r .made; replies = due (r .exchanges) }

@@ -19,8 +19,8 @@ use Rattle.machine.specs.declared.wrapper.Wrapper.{Wrapper}
 use Rattle.machine.specs.declared.wrapper.Wrapper.the-variants.{Broken, Good}
 use Rattle.machine.specs.declared.answer.Answer.{Answer}
 use Rattle.machine.specs.declared.answer.Answer.the-variants.{Data, Ack, Nak, Stall, Silent, Refused}
-use Rattle.machine.specs.Fits.{blockSize}
-use Rattle.machine.specs.Making.{blocksIn}
+use Rattle.machine.specs.Units.{blockSize, Table, unitAt}
+use Rattle.machine.specs.Making.{make}
 use Rattle.machine.specs.Wrapper.{wrapperOf}
 use Rattle.machine.specs.Bulk.{packetSize}
 use Rattle.machine.specs.Machine.{Event, busReset, control, bulkOut, bulkIn}
@@ -30,28 +30,31 @@ pub record Making : Type 0 where
   pub identity : Identity
   pub medium : List ℕ
 
--- A block that arrived: its number and its 512 bytes.
+-- A block that arrived: its unit, its number there and its 512 bytes.
 pub record Block : Type 0 where
+  pub lun : ℕ
   pub number : ℕ
   pub bytes : List ℕ
 
--- No write under way, or one: the next block, how many are left, the bytes held.
+-- No write under way, or one: its unit, the next block, how many are left, the bytes held.
 pub data Tally : Type 0 where
   idle : Tally
-  writing : ℕ → ℕ → List ℕ → Tally
+  writing : ℕ → ℕ → ℕ → List ℕ → Tally
 
 pub record Log : Type 0 where
   pub tally : Tally
   pub address : ℕ
   pub configured : Bool
+  -- the table as made
+  pub units : Table
   pub arrived : List Block
 
-abbrev pub log : Tally → ℕ → Bool → List Block → Log
-log t a c bs = record { tally = t; address = a; configured = c; arrived = bs }
+abbrev pub log : Tally → ℕ → Bool → Table → List Block → Log
+log t a c us bs = record { tally = t; address = a; configured = c; units = us; arrived = bs }
 
 -- "At first no write is under way." "Configuration and address are those last set by an acked request since making or the last bus reset, else 0."
-abbrev pub start : Log
-start = log idle 0 false []
+abbrev pub start : Making → Log
+start k = log idle 0 false (make (k .identity) (k .medium) .units) []
 
 -- ---- an acked packet
 
@@ -62,50 +65,50 @@ writeOf h Nothing = idle
 writeOf h (Reply k n) = idle
 writeOf h (Read block count) = idle
 writeOf h (Write block count) =
-    if ltb 0 count and not (h .inward) and leb (blockSize * count) (h .announced) then writing block count [] else idle
+    if ltb 0 count and not (h .inward) and leb (blockSize * count) (h .announced) then writing (h .lun) block count [] else idle
 
 unfoldable pub beginning : Wrapper → Tally
 beginning Broken = idle
 beginning (Good h p) = writeOf h p
 
 -- "with the last counted it ends"
-unfoldable pub following : ℕ → ℕ → Tally
-following block left = if leb left 1 then idle else writing (block + 1) (left - 1) []
+unfoldable pub following : ℕ → ℕ → ℕ → Tally
+following n block left = if leb left 1 then idle else writing n (block + 1) (left - 1) []
 
 abbrev pub turned : Log → Tally → List Block → Log
-turned l t bs = log t (l .address) (l .configured) (l .arrived ++ bs)
+turned l t bs = log t (l .address) (l .configured) (l .units) (l .arrived ++ bs)
 
 -- "an acked packet of 64 is held; each 512 bytes held are the next block from its address, arrived. Another length acked ends it; held bytes are dropped."
-unfoldable pub taken : ℕ → Tally → List ℕ → Log → Log
-taken n idle p l = turned l (beginning (wrapperOf n p)) []
-taken n (writing block left held) p l =
+unfoldable pub taken : Tally → List ℕ → Log → Log
+taken idle p l = turned l (beginning (wrapperOf (l .units) p)) []
+taken (writing n block left held) p l =
     if eqb (length p) packetSize
     then (if eqb (length (held ++ p)) blockSize
-    then turned l (following block left) (record { number = block; bytes = held ++ p } ∷ [])
-    else turned l (writing block left (held ++ p)) [])
+    then turned l (following n block left) (record { lun = n; number = block; bytes = held ++ p } ∷ [])
+    else turned l (writing n block left (held ++ p)) [])
     else turned l idle []
 
 -- ---- an acked request: "Another length acked ends it, as do an acked bus reset, Set Configuration or Mass Storage Reset"
 
 unfoldable pub heard : Request → Log → Log
-heard (SetAddress a) l = log (l .tally) a (l .configured) (l .arrived)
-heard (SetConfiguration v) l = log idle (l .address) (eqb v 1) (l .arrived)
+heard (SetAddress a) l = log (l .tally) a (l .configured) (l .units) (l .arrived)
+heard (SetConfiguration v) l = log idle (l .address) (eqb v 1) (l .units) (l .arrived)
 heard GetConfiguration l = l
 heard GetDeviceStatus l = l
 heard GetInterfaceStatus l = l
 heard (GetEndpointStatus e) l = l
 heard (ClearHalt e) l = l
 heard (SetHalt e) l = l
-heard MassStorageReset l = log idle (l .address) (l .configured) (l .arrived)
+heard MassStorageReset l = log idle (l .address) (l .configured) (l .units) (l .arrived)
 heard GetMaxLun l = l
 heard (GetDescriptor which n) l = l
 heard request.Stall l = l
 
-unfoldable pub heeded : ℕ → Log → Event → Log
-heeded n l busReset = log idle 0 false (l .arrived)
-heeded n l (control s b) = heard (requestOf s) l
-heeded n l (bulkOut p) = taken n (l .tally) p l
-heeded n l (bulkIn b) = l
+unfoldable pub heeded : Log → Event → Log
+heeded l busReset = log idle 0 false (l .units) (l .arrived)
+heeded l (control s b) = heard (requestOf s) l
+heeded l (bulkOut p) = taken (l .tally) p l
+heeded l (bulkIn b) = l
 
 unfoldable pub isAck : Answer → Bool
 isAck (Data n) = false
@@ -116,8 +119,8 @@ isAck Silent = false
 isAck (Refused r) = false
 
 -- "All else, refusals included, does nothing."
-unfoldable pub noted : Making → Log → Event → Answer → Log
-noted k l e a = if isAck a then heeded (blocksIn (k .medium)) l e else l
+unfoldable pub noted : Log → Event → Answer → Log
+noted l e a = if isAck a then heeded l e else l
 
 -- An observer over a list of events and the answers to them.
 unfoldable pub observed : {L : Type 0} → (L → Event → Answer → L) → L → List Event → List Answer → L
@@ -125,7 +128,7 @@ observed f l [] said = l
 observed f l (e ∷ es) [] = l
 observed f l (e ∷ es) (a ∷ said) = observed f (f l e a) es said
 
--- The medium changed in order by blocks that arrived.
-unfoldable pub stored : List ℕ → List Block → List ℕ
-stored m [] = m
-stored m (b ∷ bs) = stored (placed m (blockSize * b .number) (b .bytes)) bs
+-- The medium changed in order by blocks that arrived, each at its place in its unit's part.
+unfoldable pub stored : Table → List ℕ → List Block → List ℕ
+stored us m [] = m
+stored us m (b ∷ bs) = stored us (placed m (blockSize * (unitAt us (b .lun) .first + b .number)) (b .bytes)) bs

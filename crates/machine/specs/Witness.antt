@@ -9,13 +9,12 @@ use Rattle.scsi.specs.Sense.{outOfRange}
 use Rattle.scsi.specs.declared.command.Plan.the-variants.{Failed}
 use Rattle.scsi.specs.declared.page.Page.the-variants.{Serial}
 use Rattle.scsi.specs.declared.reply.ReplyKind.the-variants.{Page}
-use Rattle.machine.specs.declared.record.Device.{Device}
 use Rattle.machine.specs.declared.answer.Answer.the-variants.{Ack, Stall}
 use Rattle.machine.specs.Wrapper.{accepted}
-use Rattle.machine.specs.Making.{make}
+use Rattle.machine.specs.World.{World}
 use Rattle.machine.specs.Machine.{Event, control, bulkOut, bulkIn, step, run}
 use Rattle.machine.specs.Tally.{Making, writing}
-use Rattle.machine.specs.Claim.{answers, lived, history, setup, recovery, settingUp, WrapperDue, isRefusal, watched}
+use Rattle.machine.specs.Claim.{answers, Makes, lived, history, setup, recovery, settingUp, WrapperDue, isRefusal, watched}
 use Rattle.machine.specs.Beside.{Accepts}
 use Rattle.machine.specs.Sheet.{cbw, testUnitReady, onBlocks, buffer}
 use Rattle.machine.specs.Sent.{whole, first, Asks, Takes}
@@ -38,13 +37,13 @@ partWrite =
     ++ replicate 3 (bulkOut (replicate 64 9))
 
 pub record WriteCut : Type 0 where
-  pub makes : make (two .identity) (two .medium) .answer ≡ Ack
+  pub makes : Makes two
   pub acked : answers (lived two partWrite .replies) ≡ replicate 14 Ack
   pub configured : history two partWrite .configured ≡ true
-  pub held : history two partWrite .tally ≡ writing 1 1 (replicate 192 9)
-  pub recovers : answers (run (lived two partWrite .dev) (lived two partWrite .medium) recover .replies) ≡ (Ack ∷ Ack ∷ Ack ∷ [])
-  pub arrived : history two (partWrite ++ recover) .arrived ≡ (record { number = 0; bytes = replicate 512 7 } ∷ [])
-  pub medium : lived two (partWrite ++ recover) .medium ≡ replicate 512 7 ++ zeros 512
+  pub held : history two partWrite .tally ≡ writing 0 1 1 (replicate 192 9)
+  pub recovers : answers (run (lived two partWrite .world) recover .replies) ≡ (Ack ∷ Ack ∷ Ack ∷ [])
+  pub arrived : history two (partWrite ++ recover) .arrived ≡ (record { lun = 0; number = 0; bytes = replicate 512 7 } ∷ [])
+  pub medium : lived two (partWrite ++ recover) .world .medium ≡ replicate 512 7 ++ zeros 512
 
 -- ---- a lock, and its end
 
@@ -52,8 +51,8 @@ unfoldable pub test : List ℕ
 test = cbw 1 0 0x00 0 testUnitReady
 
 -- Where a wrapper is due.
-abbrev pub before : Device
-before = lived two (settingUp 5 buffer buffer) .dev
+abbrev pub before : World
+before = lived two (settingUp 5 buffer buffer) .world
 
 -- A wrapper of 30 bytes, and what a host may try after it.
 abbrev pub broken : List ℕ
@@ -69,16 +68,16 @@ tries =
     ∷ bulkOut test
     ∷ []
 
-abbrev pub after : Device
-after = step before (zeros 1024) (bulkOut broken) .dev
+abbrev pub after : World
+after = step before (bulkOut broken) .world
 
 -- The last field is the whole story: the stall, both pipes stalled before and after the acked clearings, the recovery, a wrapper acked again.
 pub record LockRecovered : Type 0 where
-  pub due : WrapperDue before (zeros 1024)
-  pub unaccepted : accepted broken ≡ false
-  pub unrefused : isRefusal (step before (zeros 1024) (bulkOut broken) .answer) ≡ false
-  pub undropped : watched tries (answers (run after (zeros 1024) tries .replies)) .ended ≡ false
-  pub replies : answers (run before (zeros 1024) (bulkOut broken ∷ tries ++ recover ++ bulkOut test ∷ []) .replies)
+  pub due : WrapperDue before
+  pub unaccepted : accepted 1 broken ≡ false
+  pub unrefused : isRefusal (step before (bulkOut broken) .answer) ≡ false
+  pub undropped : watched tries (answers (run after tries .replies)) .ended ≡ false
+  pub replies : answers (run before (bulkOut broken ∷ tries ++ recover ++ bulkOut test ∷ []) .replies)
       ≡ (Stall ∷ Stall ∷ Stall ∷ Ack ∷ Ack ∷ Stall ∷ Stall ∷ Ack ∷ Ack ∷ Ack ∷ Ack ∷ [])
 
 -- ---- a page that is cut
@@ -88,12 +87,12 @@ unfoldable pub askPage : ℕ → List ℕ
 askPage most = cbw 1 16 0x80 0 (0x12 ∷ 0x01 ∷ 0x80 ∷ 0x00 ∷ most ∷ 0x00 ∷ [])
 
 pub record PageCut : Type 0 where
-  pub some : Asks before (zeros 1024) (askPage 5) (Page Serial) 5
-  pub takes : Takes before (askPage 5) (first 5 (whole before (Page Serial)))
-  pub sent : first 5 (whole before (Page Serial)) ≡ (0x00 ∷ 0x80 ∷ 0x00 ∷ 0x0C ∷ 0x30 ∷ [])
-  pub none : Asks before (zeros 1024) (askPage 0) (Page Serial) 0
+  pub some : Asks before (askPage 5) (Page Serial) 5
+  pub takes : Takes before (askPage 5) (first 5 (whole before (askPage 5) (Page Serial)))
+  pub sent : first 5 (whole before (askPage 5) (Page Serial)) ≡ (0x00 ∷ 0x80 ∷ 0x00 ∷ 0x0C ∷ 0x30 ∷ [])
+  pub none : Asks before (askPage 0) (Page Serial) 0
 
 -- ---- a Write over the end of the two blocks
 
 pub record RangeRefused : Type 0 where
-  pub fails : Accepts before (zeros 1024) (cbw 1 1024 0x00 0 (onBlocks 0x2A 1 2)) (Failed (outOfRange 2))
+  pub fails : Accepts before (cbw 1 1024 0x00 0 (onBlocks 0x2A 1 2)) (Failed (outOfRange 2))

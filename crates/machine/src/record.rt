@@ -1,4 +1,5 @@
-// The device's record, by value: identity, the state that events change, and the block being gathered.
+// The device's record, by value: identity, the state that events change, and the block being gathered. The logical units
+// stand beside it.
 use bot::csw::Status;
 use scsi::reply::Reply;
 use scsi::sense::Sense;
@@ -7,8 +8,9 @@ use usb::descriptor::Identity;
 // The largest medium, in blocks of 512 bytes (document 02, A5). It has 2^29 bytes, so that a place in it is a u32.
 pub const MOST_BLOCKS: u32 = 1_048_576;
 
-// All that belongs to one logical unit.
+// All that belongs to one logical unit: its part of the medium, from its first block on, and its sense.
 pub struct LogicalUnit {
+    pub first: u32,
     pub blocks: u32,
     pub sense: Sense,
 }
@@ -28,9 +30,10 @@ pub enum Stage {
     StatusDue { status: Status },
 }
 
-// The command in hand; its numbers are zero where none is.
+// The command in hand, and the unit that its wrapper named; the numbers are zero where none is.
 pub struct Task {
     pub stage: Stage,
+    pub lun: u8,
     pub tag: u32,
     pub announced: u32,
     pub residue: u32,
@@ -47,7 +50,6 @@ pub struct Link {
 pub struct State {
     pub address: u8,
     pub configured: bool,
-    pub unit: LogicalUnit,
     pub link: Link,
 }
 

@@ -1,7 +1,7 @@
 -- What is printed of an answer goes by its number and count: what the collector's contracts give. Assumes nothing.
 use Prim.Native.Nat.{ℕ, _≤_}
 use mathlib.Core.Path.{_≡_, refl, sym, ap, subst, _∙_}
-use mathlib.Core.List.{List, [], _++_}
+use mathlib.Core.List.{List, [], _∷_, _++_}
 use native.Mathlib.Omega.{arith}
 use lib.Dec.{eqb}
 use lib.ListN.{length, take, length-append}
@@ -12,8 +12,12 @@ use Rattle.machine.specs.declared.answer.Answer.{Answer}
 use Rattle.machine.specs.declared.answer.Answer.the-variants.{Data, Ack, Nak, Stall, Silent, Refused}
 use Rattle.machine.specs.declared.answer.Refusal.the-variants as refusal
 use Rattle.machine.specs.declared.record.Device.{Device}
+use Rattle.machine.specs.declared.record.LogicalUnit.{LogicalUnit}
 use Rattle.machine.specs.Answer.{numberOf, countOf}
-use Rattle.machine.specs.Machine.{Out, out, Told, told}
+use Rattle.machine.specs.World.{World, world, Out, out}
+use Rattle.machine.specs.Machine.{step, Told, told}
+use Rattle.recording.specs.declared.cursor.Kind.{Kind}
+use Rattle.recording.specs.Format.{eventOf}
 use Rattle.player.specs.declared.turns.EventResult.{EventResult}
 use Rattle.player.specs.declared.turns.Turn.{Turn}
 use Rattle.printout.specs.Writing.{Wrote}
@@ -65,32 +69,34 @@ line-length k a b h =
     omega arith
 
 -- the code's outcome and its line are the machine's
-pub turned : (a : Answer) (d : Device) (m b : List ℕ) (o : Out) (k : ℕ) (before : List ℕ) (at : ℕ) (after : List ℕ) (end : ℕ)
-    → told (out a d m b) ≡ told o → length b ≤ 64 → Wrote before at (line k a b) after end
-    → Turned o k before at after m (record { device = d; at = end })
-turned a d m b o k before at after end e h w = record {
-  device = ap (λ (t : Told). t .dev) e;
-  medium = ap (λ (t : Told). t .medium) e;
-  text = wrote-as _ _ _ _ _ _ (same-line k (out a d m b) o e) w;
+pub turned : (a : Answer) (d : Device) (u : LogicalUnit) (m b : List ℕ) (o : Out) (k : ℕ) (before : List ℕ) (at : ℕ) (after : List ℕ) (end : ℕ)
+    → told (out a (world d (u ∷ []) m) b) ≡ told o → length b ≤ 64 → Wrote before at (line k a b) after end
+    → Turned o k before at after m (record { device = d; unit = u; at = end })
+turned a d u m b o k before at after end e h w = record {
+  world = ap (λ (t : Told). t .world) e;
+  text = wrote-as _ _ _ _ _ _ (same-line k (out a (world d (u ∷ []) m) b) o e) w;
   room = let l = line-length k a b h in let p = w .place in omega arith;
 }
 
-pub turned-as : (o p : Out) (k : ℕ) (before : List ℕ) (at : ℕ) (after m : List ℕ) (t : Turn) → o ≡ p → Turned o k before at after m t → Turned p k before at after m t
-turned-as o p k before at after m t e w = subst (λ (q : Out). Turned q k before at after m t) e w
+-- the same of a body whose length is written otherwise
+pub turned-as : (w : World) (x : Kind) (s : List ℕ) (i j k : ℕ) (before : List ℕ) (at : ℕ) (after m : List ℕ) (t : Turn)
+    → i ≡ j → Turned (step w (eventOf x (take i s))) k before at after m t → Turned (step w (eventOf x (take j s))) k before at after m t
+turned-as w x s i j k before at after m t e v = subst (λ (n : ℕ). Turned (step w (eventOf x (take n s))) k before at after m t) e v
 
 -- an event ended, its buffer lent whole
-pub ends-whole : (a : Answer) (d : Device) (b m : List ℕ) (o : Out) → length b ≡ 64 → told (out a d m b) ≡ told o
-    → Ends (record { answer = a; device = d; buffer = b; lent = 64 }) m o
-ends-whole a d b m o h e = record { told = ap (λ (l : List ℕ). told (out a d m l)) (take-all 64 b (omega arith)) ∙ e; lent = omega arith; size = omega arith }
+pub ends-whole : (a : Answer) (d : Device) (u : LogicalUnit) (b m : List ℕ) (o : Out) → length b ≡ 64 → told (out a (world d (u ∷ []) m) b) ≡ told o
+    → Ends (record { answer = a; device = d; unit = u; buffer = b; lent = 64 }) m o
+ends-whole a d u b m o h e = record { told = ap (λ (l : List ℕ). told (out a (world d (u ∷ []) m) l)) (take-all 64 b (omega arith)) ∙ e; lent = omega arith; size = omega arith }
 
 -- no buffer was lent
-pub ends-none : (a : Answer) (d : Device) (b m : List ℕ) (o : Out) → length b ≡ 64 → told (out a d m []) ≡ told o
-    → Ends (record { answer = a; device = d; buffer = b; lent = 0 }) m o
-ends-none a d b m o h e = record { told = e; lent = omega arith; size = omega arith }
+pub ends-none : (a : Answer) (d : Device) (u : LogicalUnit) (b m : List ℕ) (o : Out) → length b ≡ 64 → told (out a (world d (u ∷ []) m) []) ≡ told o
+    → Ends (record { answer = a; device = d; unit = u; buffer = b; lent = 0 }) m o
+ends-none a d u b m o h e = record { told = e; lent = omega arith; size = omega arith }
 
 -- what is printed of it is at most 64 bytes
 pub few-lent : (r : EventResult) (m : List ℕ) (o : Out) → Ends r m o → length (take (r .lent) (r .buffer)) ≤ 64
 few-lent r m o w = let l = length-take-le (r .lent) (r .buffer) (w .lent) in let a = w .lent in let b = w .size in omega arith
 
-pub ends-as : (r : EventResult) (m : List ℕ) (o p : Out) → o ≡ p → Ends r m o → Ends r m p
-ends-as r m o p e w = subst (Ends r m) e w
+-- the event of a kind that is known
+pub ends-as : (r : EventResult) (m : List ℕ) (w : World) (k x : Kind) (s : List ℕ) → k ≡ x → Ends r m (step w (eventOf x s)) → Ends r m (step w (eventOf k s))
+ends-as r m w k x s e v = subst (λ (y : Kind). Ends r m (step w (eventOf y s))) (sym e) v

@@ -35,7 +35,7 @@ use Rattle.recording.specs.Format.{eventOf}
 use Rattle.recording.proofs.cursor.Reading as S
 use Rattle.recording.proofs.cursor.Reading.Laws as S′
 use Rattle.player.specs.declared.turns.Turn.{Turn}
-use Rattle.player.specs.Turns.{Turned}
+use Rattle.player.specs.Turns.{worldOf, Turned}
 use Rattle.player.proofs.Again.{LentAgain, lends-again, comes-back}
 use Rattle.player.proofs.turns.Turn as U
 use Rattle.player.proofs.turns.Turn.Laws as U′
@@ -85,7 +85,7 @@ abbrev pub Asks : Passed → Type 0
 Asks a = (a .body + a .read .len ≤ length (a .input .now)) × (a .done < 1024) × (a .turn .at + 207 ≤ length (a .text .now))
 
 abbrev pub Played : Passed → List ℕ → List ℕ → Turn → Type 0
-Played a m t x = Turned (step (a .turn .device) (a .medium .now) (eventOf (a .read .kind) (take (a .read .len) (drop (a .body) (a .input .now))))) (a .done + 1) (a .text .now) (a .turn .at) t m x
+Played a m t x = Turned (step (worldOf (a .turn) (a .medium .now)) (eventOf (a .read .kind) (take (a .read .len) (drop (a .body) (a .input .now))))) (a .done + 1) (a .text .now) (a .turn .at) t m x
 
 -- its numbers and its room
 pub record Sized (a : Passed) : Type 0 where

@@ -6,9 +6,10 @@ use lib.ListN.{length, drop}
 use Rattle.wire.specs.Slices.{zeros}
 use Rattle.usb.specs.declared.descriptor.Identity.{Identity}
 use Rattle.wire.specs.Choice.{if_then_else_}
-use Rattle.machine.specs.declared.record.Device.{Device}
-use Rattle.machine.specs.Making.{mediumServed, make}
+use Rattle.machine.specs.Making.{mediumServed}
+use Rattle.machine.specs.World.{World}
 use Rattle.machine.specs.Machine.{Event, Run, run}
+use Rattle.machine.specs.Claim.{lived}
 use Rattle.recording.specs.Format.{eventsIn, Parsed, malformed, wellFormed, parse}
 use Rattle.printout.specs.Print.{heading, lines, refusedLine, mostLine}
 
@@ -18,11 +19,11 @@ benchIdentity = record { number = 42; vendor = 0; product = 0; release = 0 }
 
 -- The run over a medium as it is lent.
 unfoldable pub played : List ℕ → List Event → Run
-played start es = run (make benchIdentity start .dev) start es
+played start es = lived (record { identity = benchIdentity; medium = start }) es
 
--- The run over so many events of a recording s, from a record and a medium: what the loop over them leaves.
-abbrev pub runIn : List ℕ → ℕ → Device → List ℕ → Run
-runIn s n d m = run d m (eventsIn n (drop 2 s) (drop (2 + 4 * n) s))
+-- The run over so many events of a recording s, from a world on: what the loop over them leaves.
+abbrev pub runIn : List ℕ → ℕ → World → Run
+runIn s n w = run w (eventsIn n (drop 2 s) (drop (2 + 4 * n) s))
 
 -- The text, and the medium that is left. Nothing is run, and the medium stays as it was, of a malformed recording (16), then
 -- over a medium that making refuses (11; the number 42 is never refused).
@@ -33,7 +34,7 @@ textOf start (wellFormed es) =
 
 unfoldable pub mediumOf : List ℕ → Parsed → List ℕ → List ℕ
 mediumOf start malformed m = m
-mediumOf start (wellFormed es) m = if mediumServed start then played start es .medium else m
+mediumOf start (wellFormed es) m = if mediumServed start then played start es .world .medium else m
 
 unfoldable pub printedOver : List ℕ → List ℕ → List ℕ
 printedOver start s = textOf start (parse s)

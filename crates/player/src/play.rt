@@ -9,10 +9,11 @@ ghost use Rattle.machine.specs.Answer.{numberOf};
 ghost use Rattle.recording.specs.Format.{formed, isFormed};
 ghost use Rattle.printout.specs.Writing.{Wrote};
 ghost use Rattle.printout.specs.Print.{lines};
+ghost use Rattle.player.specs.Turns.{worldOf};
 ghost use Rattle.player.specs.Player.{runIn, benchMedium, Leaves};
 use crate::turns::Turn;
 use crate::turns::play_one;
-use collector::events::make;
+use collector::making::make;
 use machine::answer::Answer;
 use printout::print::heading;
 use printout::print::refusal;
@@ -39,10 +40,10 @@ fn clear(medium: &mut [u8])
     }
 }
 
-// The events of a well-formed recording, so many, from a record and a place in the text on.
+// The events of a well-formed recording, so many, from a record, its unit and a place in the text on.
 fn events(input: &[u8], count: usize, medium: &mut [u8], text: &mut [u8], start: Turn) -> Turn
     requires { ⌜ (count ≤ 1024) × (2 + 4 * count ≤ length (now input)) × (start .at + 207 * count ≤ length (now text)) × (formed count (drop 2 (now input)) (drop (2 + 4 * count) (now input)) ≡ true) ⌝ }
-    ensures { λ r. ⌜ (Wrote (now (text .entry)) (start .at) (lines 1 (runIn (now (input .entry)) count (start .device) (now (medium .entry)) .replies)) (now (text .exit)) (r .at)) × (now (medium .exit) ≡ runIn (now (input .entry)) count (start .device) (now (medium .entry)) .medium) × (r .at ≤ length (now (text .entry))) ⌝ }
+    ensures { λ r. ⌜ (Wrote (now (text .entry)) (start .at) (lines 1 (runIn (now (input .entry)) count (worldOf start (now (medium .entry))) .replies)) (now (text .exit)) (r .at)) × (now (medium .exit) ≡ runIn (now (input .entry)) count (worldOf start (now (medium .entry))) .world .medium) × (r .at ≤ length (now (text .entry))) ⌝ }
 {
     let mut head = new(input, 2, 2 + 4 * count);
     let mut turn = start;
@@ -87,9 +88,10 @@ fn played(input: &[u8], medium: &mut [u8], text: &mut [u8; ROOM]) -> usize
         return refusal(text, 11);
     }
     let device = made.device;
+    let unit = made.unit;
     let count = count_of(input);
     let at = heading(text, count);
-    let start = Turn { device, at };
+    let start = Turn { device, unit, at };
     let last = events(input, count, medium, text, start);
     last.at
 }

@@ -1,102 +1,137 @@
 // One event of a recording is run on the collector, and its line is written. The buffer that an event is lent is of zeros.
-ghost use mathlib.Core.List.{List};
+ghost use mathlib.Core.List.{List, [], _∷_};
 ghost use Prim.Native.Nat.{ℕ, _+_, _≤_, _<_};
 ghost use lib.ListN.{length, take, drop};
-ghost use Rattle.machine.specs.Machine.{step, busReset, bulkOut, bulkIn};
-ghost use Rattle.machine.specs.Machine as machines;
+ghost use Rattle.machine.specs.World.{world};
+ghost use Rattle.machine.specs.Machine.{step, busReset, control, bulkOut, bulkIn};
 ghost use Rattle.recording.specs.Format.{lentBuffer, eventOf};
-ghost use Rattle.player.specs.Turns.{Ends, Turned};
-use collector::events::bulk_in;
-use collector::events::bulk_out;
-use collector::events::bus_reset;
-use collector::events::control;
+ghost use Rattle.player.specs.Turns.{Ends, worldOf, Turned};
+use bulk::parts::in_parts;
+use bulk::parts::out_parts;
+use control::parts::control_parts;
+use control::parts::reset_parts;
 use machine::answer::Answer;
 use machine::record::Device;
+use machine::record::LogicalUnit;
 use printout::print::line;
 use recording::cursor::Kind;
 use recording::cursor::Reading;
 
-// What an event leaves: its answer, the record, and of the buffer that it was lent the first `lent` bytes.
+// What an event leaves: its answer, the record and its unit, and of the buffer that it was lent the first `lent` bytes.
 struct EventResult {
     answer: Answer,
     device: Device,
+    unit: LogicalUnit,
     buffer: [u8; 64],
     lent: usize,
 }
 
-fn reset(device: Device) -> EventResult
-    ensures { λ r. ⌜ ((m : List ℕ) → Ends r m (step device m busReset)) ⌝ }
+fn reset(mut device: Device, unit: LogicalUnit) -> EventResult
+    ensures { λ r. ⌜ ((m : List ℕ) → Ends r m (step (world device (unit ∷ []) m) busReset)) ⌝ }
 {
-    let done = bus_reset(device);
-    let answer = done.answer;
-    let next = done.device;
+    let moved = reset_parts(device.identity, device.state, unit, &mut device.part);
+    let answer = moved.answer;
+    let next = moved.state;
+    let after = moved.unit;
+    device.state = next;
     EventResult {
         answer,
-        device: next,
+        device,
+        unit: after,
         buffer: [0; 64],
         lent: 0,
     }
 }
 
-fn request(device: Device, setup: &[u8]) -> EventResult
-    ensures { λ r. ⌜ ((m : List ℕ) → Ends r m (step device m (machines.control (now (setup .entry)) lentBuffer))) ⌝ }
+fn request(mut device: Device, unit: LogicalUnit, setup: &[u8]) -> EventResult
+    ensures { λ r. ⌜ ((m : List ℕ) → Ends r m (step (world device (unit ∷ []) m) (control (now (setup .entry)) lentBuffer))) ⌝ }
 {
     let mut buffer = [0; 64];
-    let done = control(device, setup, &mut buffer);
-    let answer = done.answer;
-    let next = done.device;
+    let moved = control_parts(
+        device.identity,
+        device.state,
+        unit,
+        &mut device.part,
+        setup,
+        &mut buffer,
+    );
+    let answer = moved.answer;
+    let next = moved.state;
+    let after = moved.unit;
+    device.state = next;
     EventResult {
         answer,
-        device: next,
+        device,
+        unit: after,
         buffer,
         lent: 64,
     }
 }
 
-fn packet(device: Device, sent: &[u8], medium: &mut [u8]) -> EventResult
-    ensures { λ r. ⌜ Ends r (now (medium .exit)) (step device (now (medium .entry)) (bulkOut (now (sent .entry)))) ⌝ }
+fn packet(mut device: Device, unit: LogicalUnit, sent: &[u8], medium: &mut [u8]) -> EventResult
+    ensures { λ r. ⌜ Ends r (now (medium .exit)) (step (world device (unit ∷ []) (now (medium .entry))) (bulkOut (now (sent .entry)))) ⌝ }
 {
-    let done = bulk_out(device, medium, sent);
-    let answer = done.answer;
-    let next = done.device;
+    let moved = out_parts(
+        device.identity,
+        device.state,
+        unit,
+        &mut device.part,
+        medium,
+        sent,
+    );
+    let answer = moved.answer;
+    let next = moved.state;
+    let after = moved.unit;
+    device.state = next;
     EventResult {
         answer,
-        device: next,
+        device,
+        unit: after,
         buffer: [0; 64],
         lent: 0,
     }
 }
 
-fn ask(device: Device, medium: &[u8]) -> EventResult
-    ensures { λ r. ⌜ Ends r (now (medium .entry)) (step device (now (medium .entry)) (bulkIn lentBuffer)) ⌝ }
+fn ask(mut device: Device, unit: LogicalUnit, medium: &[u8]) -> EventResult
+    ensures { λ r. ⌜ Ends r (now (medium .entry)) (step (world device (unit ∷ []) (now (medium .entry))) (bulkIn lentBuffer)) ⌝ }
 {
     let mut buffer = [0; 64];
-    let done = bulk_in(device, medium, &mut buffer);
-    let answer = done.answer;
-    let next = done.device;
+    let moved = in_parts(device.identity, device.state, unit, medium, &mut buffer);
+    let answer = moved.answer;
+    let next = moved.state;
+    let after = moved.unit;
+    device.state = next;
     EventResult {
         answer,
-        device: next,
+        device,
+        unit: after,
         buffer,
         lent: 64,
     }
 }
 
-fn event(device: Device, kind: Kind, body: &[u8], medium: &mut [u8]) -> EventResult
-    ensures { λ r. ⌜ Ends r (now (medium .exit)) (step device (now (medium .entry)) (eventOf kind (now (body .entry)))) ⌝ }
+fn event(
+    device: Device,
+    unit: LogicalUnit,
+    kind: Kind,
+    body: &[u8],
+    medium: &mut [u8],
+) -> EventResult
+    ensures { λ r. ⌜ Ends r (now (medium .exit)) (step (world device (unit ∷ []) (now (medium .entry))) (eventOf kind (now (body .entry)))) ⌝ }
 {
     match kind {
-        Kind::Reset => reset(device),
-        Kind::Control => request(device, body),
-        Kind::Out => packet(device, body, medium),
-        Kind::Ask => ask(device, medium),
-        Kind::Malformed => reset(device),
+        Kind::Reset => reset(device, unit),
+        Kind::Control => request(device, unit, body),
+        Kind::Out => packet(device, unit, body, medium),
+        Kind::Ask => ask(device, unit, medium),
+        Kind::Malformed => reset(device, unit),
     }
 }
 
-// The record after an event, and the place behind its line.
+// The record and its unit after an event, and the place behind its line.
 pub(crate) struct Turn {
     pub device: Device,
+    pub unit: LogicalUnit,
     pub at: usize,
 }
 
@@ -111,16 +146,22 @@ pub(crate) fn play_one(
     text: &mut [u8],
 ) -> Turn
     requires { ⌜ (body + r .len ≤ length (now input)) × (done < 1024) × (turn .at + 207 ≤ length (now text)) ⌝ }
-    ensures { λ x. ⌜ Turned (step (turn .device) (now (medium .entry)) (eventOf (r .kind) (take (r .len) (drop body (now (input .entry)))))) (done + 1) (now (text .entry)) (turn .at) (now (text .exit)) (now (medium .exit)) x ⌝ }
+    ensures { λ x. ⌜ Turned (step (worldOf turn (now (medium .entry))) (eventOf (r .kind) (take (r .len) (drop body (now (input .entry)))))) (done + 1) (now (text .entry)) (turn .at) (now (text .exit)) (now (medium .exit)) x ⌝ }
 {
     let kind = r.kind;
     let end = body + r.len;
     let device = turn.device;
-    let result = event(device, kind, &input[body..end], medium);
+    let unit = turn.unit;
+    let result = event(device, unit, kind, &input[body..end], medium);
     let answer = result.answer;
     let next = result.device;
+    let after = result.unit;
     let buffer = result.buffer;
     let lent = result.lent;
     let at = line(text, turn.at, done + 1, answer, &buffer[..lent]);
-    Turn { device: next, at }
+    Turn {
+        device: next,
+        unit: after,
+        at,
+    }
 }

@@ -1,7 +1,11 @@
-// Number 10: whether a record fits together. Sums and products are taken in 64 bits: a record may hold any numbers.
+// Number 10: whether a record and its unit fit together. Sums and products are taken in 64 bits: a record may hold any
+// numbers.
 ghost use mathlib.Core.Path.{_≡_};
-ghost use Rattle.machine.specs.Fits.{sizeFits, numberFits, isReady, idleFits, lockFits, taskFits, fits, outFits, inFits};
+ghost use mathlib.Core.List.{[], _∷_};
+ghost use Rattle.machine.specs.Units.{sizeFits};
+ghost use Rattle.machine.specs.Fits.{numberFits, isReady, idleFits, lockFits, taskFits, fits, outFits, inFits};
 use machine::record::Link;
+use machine::record::LogicalUnit;
 use machine::record::MOST_BLOCKS;
 use machine::record::Stage;
 use machine::record::State;
@@ -46,11 +50,10 @@ fn is_ready(stage: Stage) -> bool
     }
 }
 
-fn idle_fits(state: State) -> bool
-    ensures { λ r. ⌜ r ≡ idleFits state ⌝ }
+fn idle_fits(state: State, unit: LogicalUnit) -> bool
+    ensures { λ r. ⌜ r ≡ idleFits state (unit ∷ []) ⌝ }
 {
     let configured = state.configured;
-    let unit = state.unit;
     let link = state.link;
     if configured {
         return true;
@@ -123,29 +126,29 @@ pub fn in_fits(size: u64, place: u32, left: u32, announced: u32, residue: u32) -
     residue <= announced
 }
 
-fn task_fits(blocks: u32, task: Task) -> bool
-    ensures { λ r. ⌜ r ≡ taskFits blocks (task .stage) (task .announced) (task .residue) ⌝ }
+// Blocks are moved only to and from the one unit, number 0.
+fn task_fits(task: Task, unit: LogicalUnit) -> bool
+    ensures { λ r. ⌜ r ≡ taskFits (unit ∷ []) task ⌝ }
 {
     let stage = task.stage;
+    let lun = task.lun;
     let announced = task.announced;
     let residue = task.residue;
+    let blocks = unit.blocks;
     match stage {
         Stage::Ready => true,
-        Stage::DataOut { block, left, held } => out_fits(
-            blocks,
-            block,
-            left,
-            held,
-            announced,
-            residue,
-        ),
-        Stage::DataIn { place, left } => in_fits(
-            512 * (blocks as u64),
-            place,
-            left,
-            announced,
-            residue,
-        ),
+        Stage::DataOut { block, left, held } => {
+            if lun != 0 {
+                return false;
+            }
+            out_fits(blocks, block, left, held, announced, residue)
+        }
+        Stage::DataIn { place, left } => {
+            if lun != 0 {
+                return false;
+            }
+            in_fits(512 * (blocks as u64), place, left, announced, residue)
+        }
         Stage::ReplyIn { reply, place, left } => in_fits(
             reply_size(kind_of(reply)) as u64,
             place,
@@ -157,15 +160,18 @@ fn task_fits(blocks: u32, task: Task) -> bool
     }
 }
 
-pub fn fits(identity: Identity, state: State) -> bool
-    ensures { λ r. ⌜ r ≡ fits identity state ⌝ }
+pub fn fits(identity: Identity, state: State, unit: LogicalUnit) -> bool
+    ensures { λ r. ⌜ r ≡ fits identity state (unit ∷ []) ⌝ }
 {
     let number = identity.number;
     let address = state.address;
-    let unit = state.unit;
     let link = state.link;
+    let first = unit.first;
     let blocks = unit.blocks;
     let task = link.task;
+    if first != 0 {
+        return false;
+    }
     if !size_fits(blocks as usize) {
         return false;
     }
@@ -175,11 +181,11 @@ pub fn fits(identity: Identity, state: State) -> bool
     if 0x7F < address {
         return false;
     }
-    if !idle_fits(state) {
+    if !idle_fits(state, unit) {
         return false;
     }
     if !lock_fits(link) {
         return false;
     }
-    task_fits(blocks, task)
+    task_fits(task, unit)
 }

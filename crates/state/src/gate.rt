@@ -1,33 +1,23 @@
 // The checks before an event, in document 01's order, and what an event's inner function answers.
 ghost use mathlib.Core.Path.{_≡_};
-ghost use Rattle.state.specs.Gates.{ofGate, ofVerdict};
+ghost use Rattle.state.specs.Gates.{admission};
 ghost use Rattle.machine.specs.Machine.{inOrder};
 use machine::answer::Answer;
 use machine::answer::Refusal;
+use machine::checks::Checks;
+use machine::checks::Verdict;
+use machine::record::LogicalUnit;
 use machine::record::State;
 
-pub enum Gate {
-    Open,
-    Shut(Answer),
-}
-
+// The state and the unit that an event leaves.
 pub struct Moved {
     pub answer: Answer,
     pub state: State,
+    pub unit: LogicalUnit,
 }
 
-// What is checked before an event. Each is true where the event lends no such input.
-pub struct Checks {
-    pub fits: bool,
-    pub medium: bool,
-    pub buffer: bool,
-    pub packet: bool,
-    pub setup: bool,
-    pub configured: bool,
-}
-
-pub fn admit(checks: Checks) -> Gate
-    ensures { λ r. ⌜ ofGate r ≡ ofVerdict (inOrder (checks .fits) (checks .medium) (checks .buffer) (checks .packet) (checks .setup) (checks .configured)) ⌝ }
+pub fn admit(checks: Checks) -> Verdict
+    ensures { λ r. ⌜ admission r ≡ admission (inOrder checks) ⌝ }
 {
     let fits = checks.fits;
     let medium = checks.medium;
@@ -36,32 +26,32 @@ pub fn admit(checks: Checks) -> Gate
     let setup = checks.setup;
     let configured = checks.configured;
     if !fits {
-        return Gate::Shut(Answer::Refused {
+        return Verdict::Refuses(Answer::Refused {
             why: Refusal::Record,
         });
     }
     if !medium {
-        return Gate::Shut(Answer::Refused {
+        return Verdict::Refuses(Answer::Refused {
             why: Refusal::Medium,
         });
     }
     if !buffer {
-        return Gate::Shut(Answer::Refused {
+        return Verdict::Refuses(Answer::Refused {
             why: Refusal::Buffer,
         });
     }
     if !packet {
-        return Gate::Shut(Answer::Refused {
+        return Verdict::Refuses(Answer::Refused {
             why: Refusal::Packet,
         });
     }
     if !setup {
-        return Gate::Shut(Answer::Refused {
+        return Verdict::Refuses(Answer::Refused {
             why: Refusal::Setup,
         });
     }
     if !configured {
-        return Gate::Shut(Answer::Silent);
+        return Verdict::Refuses(Answer::Silent);
     }
-    Gate::Open
+    Verdict::Passes
 }

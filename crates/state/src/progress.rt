@@ -8,7 +8,6 @@ use bot::csw::Status;
 use machine::record::Stage;
 use machine::record::State;
 use machine::record::Task;
-use scsi::sense::Sense;
 
 // The halt that comes with the last of the data, if some of the announced length is left.
 pub fn halt_at_end(last: bool, residue: u32, before: bool) -> bool
@@ -35,7 +34,7 @@ pub fn next_in(left: u32, more: Stage) -> Stage
     more
 }
 
-// Data of another length than 64: the command ends in a phase error.
+// Data of another length than 64: the command ends in a phase error. The caller sets the sense.
 pub fn cut_state(state: State) -> State
     ensures { λ r. ⌜ r ≡ cutState state ⌝ }
 {
@@ -45,23 +44,21 @@ pub fn cut_state(state: State) -> State
         stage: Stage::StatusDue {
             status: Status::PhaseError,
         },
+        lun: old.lun,
         tag: old.tag,
         announced: old.announced,
         residue: old.residue,
     };
-    let sense = Sense::DATA_PHASE;
-    moved(state, sense, link.haltin, true, task)
+    moved(state, link.haltin, true, task)
 }
 
 // After the status a wrapper is due; a phase error locks the device.
 pub fn after_status(status: Status, state: State) -> State
     ensures { λ r. ⌜ r ≡ afterStatus status state ⌝ }
 {
-    let unit = state.unit;
     let link = state.link;
-    let sense = unit.sense;
     let task = no_task();
-    let next = moved(state, sense, link.haltin, link.haltout, task);
+    let next = moved(state, link.haltin, link.haltout, task);
     match status {
         Status::Passed => next,
         Status::Failed => next,

@@ -1,6 +1,7 @@
 // The states that events leave: each struct is built here and nowhere else.
 ghost use mathlib.Core.Path.{_≡_};
 ghost use Rattle.wire.specs.Slices.{zeros};
+ghost use Rattle.machine.specs.Units.{withSense};
 ghost use Rattle.machine.specs.Record.{noTask, moved, withHalts, withAddress, droppedState};
 ghost use Rattle.machine.specs.Bulk.{lockedState};
 use machine::record::Link;
@@ -15,25 +16,32 @@ pub fn no_task() -> Task
 {
     Task {
         stage: Stage::Ready,
+        lun: 0,
         tag: 0,
         announced: 0,
         residue: 0,
     }
 }
 
-// Within a command: sense, halts and task change.
-pub fn moved(state: State, sense: Sense, haltin: bool, haltout: bool, task: Task) -> State
-    ensures { λ r. ⌜ r ≡ moved state sense haltin haltout task ⌝ }
+// Another sense; the unit's part of the medium stays.
+pub fn with_sense(unit: LogicalUnit, sense: Sense) -> LogicalUnit
+    ensures { λ r. ⌜ r ≡ withSense unit sense ⌝ }
 {
-    let unit = state.unit;
+    LogicalUnit {
+        first: unit.first,
+        blocks: unit.blocks,
+        sense,
+    }
+}
+
+// Within a command: halts and task change.
+pub fn moved(state: State, haltin: bool, haltout: bool, task: Task) -> State
+    ensures { λ r. ⌜ r ≡ moved state haltin haltout task ⌝ }
+{
     let link = state.link;
     State {
         address: state.address,
         configured: state.configured,
-        unit: LogicalUnit {
-            blocks: unit.blocks,
-            sense,
-        },
         link: Link {
             haltin,
             haltout,
@@ -46,13 +54,11 @@ pub fn moved(state: State, sense: Sense, haltin: bool, haltout: bool, task: Task
 pub fn with_halts(state: State, haltin: bool, haltout: bool, locked: bool) -> State
     ensures { λ r. ⌜ r ≡ withHalts state haltin haltout locked ⌝ }
 {
-    let unit = state.unit;
     let link = state.link;
     let task = link.task;
     State {
         address: state.address,
         configured: state.configured,
-        unit,
         link: Link {
             haltin,
             haltout,
@@ -65,36 +71,22 @@ pub fn with_halts(state: State, haltin: bool, haltout: bool, locked: bool) -> St
 pub fn with_address(state: State, address: u8) -> State
     ensures { λ r. ⌜ r ≡ withAddress state address ⌝ }
 {
-    let unit = state.unit;
     let link = state.link;
     State {
         address,
         configured: state.configured,
-        unit,
         link,
     }
 }
 
-// "Dropping the command": ready for a wrapper, lock ended, sense 00/00/00. The caller wipes the part block.
-pub fn dropped_state(
-    state: State,
-    address: u8,
-    configured: bool,
-    haltin: bool,
-    haltout: bool,
-) -> State
-    ensures { λ r. ⌜ r ≡ droppedState state address configured haltin haltout ⌝ }
+// "Dropping the command": ready for a wrapper, lock ended. The caller wipes the part block and clears the sense.
+pub fn dropped_state(address: u8, configured: bool, haltin: bool, haltout: bool) -> State
+    ensures { λ r. ⌜ r ≡ droppedState address configured haltin haltout ⌝ }
 {
-    let unit = state.unit;
     let task = no_task();
-    let sense = Sense::NONE;
     State {
         address,
         configured,
-        unit: LogicalUnit {
-            blocks: unit.blocks,
-            sense,
-        },
         link: Link {
             haltin,
             haltout,

@@ -2,7 +2,7 @@
 use mathlib.Core.Path.{sym, _∙_}
 use borrow.Author.Tests.{not-true, not-false}
 use Rattle.wire.specs.Choice.{if_then_else_}
-use Rattle.machine.specs.Begin.{begunBy, begun}
+use Rattle.machine.specs.Begin.{begunBy, begun, begunUnit}
 use Rattle.begin.specs.InRange.{begunInRange}
 use borrow.Author.Needs.{needs}
 use Rattle.begin.proofs.command.begin.Statement.{statement}
@@ -34,15 +34,18 @@ halts-out-requires : tie.Need-halts-out-requires
 halts-out-requires c κs = search needs
 
 staged-requires : tie.Need-staged-requires
-staged-requires c κs = sym (c .before .before .before .before .before .before .before .before .before .before .is-in-range .ensures) ∙ not-false _ (c .before .before .before .before .before .before .before .before .before .if1 .left)
+staged-requires c κs = sym (c .before .before .before .before .before .before .before .before .before .is-in-range .ensures) ∙ not-false _ (c .before .before .before .before .before .before .before .before .if1 .left)
 
 moved-requires : tie.Need-moved-requires
 moved-requires c κs = search needs
 
+with-sense-requires : tie.Need-with-sense-requires
+with-sense-requires c κs = search needs
+
 returns-2 : tie.Need-returns-2
-unfolding begunInRange begun begunBy if_then_else_
+unfolding begunInRange begun begunBy begunUnit if_then_else_
 returns-2 c =
-    simp (sym (c .before .before .before .before .before .before .before .before .before .before .before .before .is-in-range .ensures) ∙ not-false _ (c .before .before .before .before .before .before .before .before .before .before .before .if1 .left), sym (c .before .before .before .before .before .before .before .host-of .ensures), sym (c .before .before .before .before .before .before .has-of .ensures), sym (c .before .before .before .before .before .case-of .ensures), sym (c .before .before .before .before .sensed .ensures), sym (c .before .before .before .halts-in .ensures), sym (c .before .before .halts-out .ensures), sym (c .before .staged .ensures)) (c .moved .ensures)
+    simp (sym (c .before .before .before .before .before .before .before .before .before .before .before .before .is-in-range .ensures) ∙ not-false _ (c .before .before .before .before .before .before .before .before .before .before .before .if1 .left), sym (c .before .before .before .before .before .before .before .before .host-of .ensures), sym (c .before .before .before .before .before .before .before .has-of .ensures), sym (c .before .before .before .before .before .before .case-of .ensures), sym (c .before .before .before .before .before .sensed .ensures), sym (c .before .before .before .before .halts-in .ensures), sym (c .before .before .before .halts-out .ensures), sym (c .before .before .staged .ensures), c .before .moved .ensures, c .with-sense .ensures)
 
 pub begin-spec : {M : Type 1} → statement M
 begin-spec =
@@ -58,4 +61,5 @@ begin-spec =
     halts-out-requires
     staged-requires
     moved-requires
+    with-sense-requires
     returns-2)

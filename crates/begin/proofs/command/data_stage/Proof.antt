@@ -8,7 +8,7 @@ use Rattle.wire.specs.Slices.{fits}
 use Rattle.scsi.specs.declared.command.Plan.{Plan}
 use Rattle.scsi.specs.declared.command.Plan.the-variants.{Read}
 use Rattle.machine.specs.Begin.{dataStage}
-use Rattle.machine.specs.Fits.{mostBlocks}
+use Rattle.machine.specs.Units.{mostBlocks}
 use Rattle.begin.specs.InRange.{isInRange}
 use borrow.Author.Needs.{needs}
 use Rattle.begin.proofs.command.data_stage.Statement.{statement}

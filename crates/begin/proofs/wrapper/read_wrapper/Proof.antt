@@ -3,7 +3,7 @@ use Prim.Native.Nat.{ℕ}
 use mathlib.Core.Path.{sym, ap, _∙_}
 use mathlib.Core.List.{List}
 use native.Mathlib.Omega.{arith}
-use borrow.Author.Tests.{le-leb, lt-leb, eq-eqb, ne-eqb}
+use borrow.Author.Tests.{le-leb, lt-leb, le-ltb}
 use Rattle.wire.specs.Choice.{if_then_else_, _and_}
 use Rattle.wire.proofs.Lists.{tail-is}
 use Rattle.machine.specs.Wrapper.{accepted, wrapperOf}
@@ -28,7 +28,7 @@ returns : tie.Need-returns
 unfolding wrapperOf accepted _and_ if_then_else_
 returns c =
     let t = read-readable _ _ _ (c .before .before .before .before .read-header .ensures) (c .before .before .header .given .1) in
-    simp (t .0, sym (t .1), ne-eqb _ _ (c .if1 .taken))
+    simp (t .0, sym (t .1), le-ltb (c .before .before .header .given .0 .0 .lun) 1 (omega (arith, c .if1 .taken)))
 
 byte-requires : tie.Need-byte-requires
 byte-requires c κs = search needs
@@ -40,7 +40,7 @@ returns-2 : tie.Need-returns-2
 unfolding wrapperOf accepted _and_ if_then_else_
 returns-2 c =
     let t = read-readable _ _ _ (c .before .before .before .before .before .before .before .read-header .ensures) (c .before .before .before .before .before .header .given .1) in
-    simp (t .0, sym (t .1), eq-eqb _ _ (c .before .before .before .if1 .left), sym (c .before .before .byte .ensures), sym (c .before .block-length .ensures), lt-leb _ _ (c .if2 .taken))
+    simp (t .0, sym (t .1), c .before .before .before .if1 .left, sym (c .before .before .byte .ensures), sym (c .before .block-length .ensures), lt-leb _ _ (c .if2 .taken))
 
 sub-plan-of : tie.Need-sub-plan-of
 sub-plan-of c =
@@ -66,8 +66,8 @@ returns-4 : tie.Need-returns-4
 unfolding wrapperOf accepted _and_ if_then_else_
 returns-4 c =
     let t = read-readable _ _ _ (c .before .before .before .before .before .before .before .before .before .read-header .ensures) (c .before .before .before .before .before .before .before .header .given .1) in
-    simp (t .0, sym (t .1), eq-eqb _ _ (c .before .before .before .before .before .if1 .left), sym (c .before .before .before .before .byte .ensures), sym (c .before .before .before .block-length .ensures), le-leb _ _ (c .before .before .if2 .left))
-    (ap (λ (p : Plan). Good (c .before .before .before .before .before .before .before .header .given .0 .0) p) (c .plan-of .ensures ∙ ap (λ (l : List ℕ). planOf l (c .before .before .before .before .before .before .before .before .before .before .before .args .blocks)) (tail-is 15 (c .before .before .before .before .before .before .before .before .before .before .before .args .packet .now))))
+    simp (t .0, sym (t .1), c .before .before .before .before .before .if1 .left, sym (c .before .before .before .before .byte .ensures), sym (c .before .before .before .block-length .ensures), le-leb _ _ (c .before .before .if2 .left))
+    (ap (λ (p : Plan). Good (c .before .before .before .before .before .before .before .header .given .0 .0) p) (c .plan-of .ensures ∙ ap (λ (l : List ℕ). planOf l (c .before .before .before .before .before .before .before .before .before .before .before .args .unit .blocks)) (tail-is 15 (c .before .before .before .before .before .before .before .before .before .before .before .args .packet .now))))
 
 pub read-wrapper-spec : {M : Type 1} → statement M
 read-wrapper-spec =

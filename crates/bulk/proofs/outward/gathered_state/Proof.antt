@@ -5,8 +5,8 @@ use borrow.Author.Needs.{needs}
 use Rattle.bulk.proofs.outward.gathered_state.Statement.{statement}
 use Rattle.bulk.proofs.outward.gathered_state.Tie as tie
 
-add-t10 : tie.Need-add-t10
-add-t10 c = search needs
+add-t8 : tie.Need-add-t8
+add-t8 c = search needs
 
 moved-requires : tie.Need-moved-requires
 moved-requires c κs = search needs
@@ -16,4 +16,4 @@ unfolding gatheredState
 returns c = c .moved .ensures
 
 pub gathered-state-spec : {M : Type 1} → statement M
-gathered-state-spec = tie.close (tie.spec add-t10 moved-requires returns)
+gathered-state-spec = tie.close (tie.spec add-t8 moved-requires returns)

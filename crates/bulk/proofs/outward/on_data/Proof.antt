@@ -12,10 +12,13 @@ wipe-requires c κs = search needs
 cut-state-requires : tie.Need-cut-state-requires
 cut-state-requires c κs = search needs
 
+with-sense-requires : tie.Need-with-sense-requires
+with-sense-requires c κs = search needs
+
 returns : tie.Need-returns
 unfolding onData cutShort cutState if_then_else_
 returns c =
-    λ i. simp (ne-eqb _ _ (c .before .before .before .if1 .taken), c .cut-state .ensures, c .before .wipe .ensures)
+    λ i. simp (ne-eqb _ _ (c .before .before .before .before .if1 .taken), c .with-sense .ensures, c .before .cut-state .ensures, c .before .before .wipe .ensures)
 
 put-packet-requires : tie.Need-put-packet-requires
 put-packet-requires c κs = search needs
@@ -57,6 +60,7 @@ on-data-spec =
     (tie.spec
     wipe-requires
     cut-state-requires
+    with-sense-requires
     returns
     put-packet-requires
     add-if2

@@ -29,8 +29,9 @@ returns c =
 returns-2 : tie.Need-returns-2
 unfolding onWrapper
 returns-2 c =
-    let e = sym (c .before .before .before .before .read-wrapper .ensures) ∙ c .before .before .header .given .1 in
-    λ i p m. simp (e, c .begin .ensures ∙ wrapper-begins _ _ _ _ _ (c .before .before .before .before .before .before .before .pre) e)
+    let e = sym (c .before .before .before .before .before .before .read-wrapper .ensures) ∙ c .before .before .before .before .header .given .1 in
+    let b = wrapper-begins _ _ _ _ _ (c .before .before .before .before .before .before .before .before .pre) e in
+    λ i p m. simp (e, b .0, c .before .before .begin .ensures ∙ b .1)
 
 pub on-wrapper-spec : {M : Type 1} → statement M
 on-wrapper-spec =

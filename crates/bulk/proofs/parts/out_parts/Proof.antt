@@ -1,10 +1,9 @@
 -- `out_parts` meets its contract. Assumes nothing.
-use mathlib.Core.Path.{sym, ap, _∙_}
-use Rattle.machine.specs.Record.{device}
-use Rattle.machine.specs.Outcome.{Effect}
-use Rattle.machine.specs.Machine.{told, unlent}
-use Rattle.state.proofs.Gates.{goes-on}
-use Rattle.bulk.proofs.Admission.{open-sound, shut-out, open-out}
+use mathlib.Core.Path.{ap, _∙_}
+use mathlib.Core.List.{[]}
+use Rattle.machine.specs.Machine.{lent, effect, told}
+use Rattle.state.proofs.Gates.{refused, gone-on}
+use Rattle.bulk.proofs.Admission.{out-checks, sound}
 use borrow.Author.Needs.{needs}
 use Rattle.bulk.proofs.parts.out_parts.Statement.{statement}
 use Rattle.bulk.proofs.parts.out_parts.Tie as tie
@@ -28,23 +27,18 @@ enum-told : tie.Need-enum-told
 enum-told c = search needs
 
 packet-out-requires : tie.Need-packet-out-requires
-packet-out-requires c κs =
-    let a = c .before .before .before .before .before .before .before .before .before .before .args in
-    open-sound (device (a .identity) (a .state) (a .part .now)) (a .medium .now) _ _ _ _ (goes-on _ _ (c .before .before .enum-told .given .1) (simp (c .before .before .before .before .before .fits2 .ensures) at (c .before .before .before .before .admit .ensures)))
+packet-out-requires c κs = let a = c .before .before .before .before .before .before .before .before .before .args in sound (a .identity) (a .state) [] (a .unit) (a .medium .now) _ _ (c .before .before .before .before .before .fits2 .ensures) _ _ (c .before .before .enum-told .given .1) (c .before .before .before .before .admit .ensures)
 
 returns : tie.Need-returns
-returns c =
-    let a = c .before .before .before .before .before .before .before .before .before .args in
-    shut-out (device (a .identity) (a .state) (a .part .now)) (a .medium .now) (a .packet .now) _ _ (c .before .answer .given .1) (simp (c .before .before .before .before .fits2 .ensures) at (c .before .before .before .admit .ensures))
+unfolding lent
+returns c = let a = c .before .before .before .before .before .before .before .before .args in refused _ _ _ (out-checks (a .identity) (a .state) (a .part .now) (a .unit) (a .medium .now) (c .before .before .before .admit .result) _ (c .before .before .before .before .fits2 .ensures) (a .packet .now) (c .before .before .before .admit .ensures)) _ (c .before .answer .given .1)
 
 same-length : tie.Need-same-length
 same-length c = search needs
 
 returns-2 : tie.Need-returns-2
-returns-2 c =
-    let a = c .before .before .before .before .before .before .before .before .before .before .before .before .before .args in
-    ap (λ (e : Effect). told (unlent e)) (c .before .before .packet-out .ensures (a .identity))
-    ∙ ap told (sym (open-out (device (a .identity) (a .state) (a .part .now)) (a .medium .now) (a .packet .now) (goes-on _ _ (c .before .before .before .before .before .enum-told .given .1) (simp (c .before .before .before .before .before .before .before .before .fits2 .ensures) at (c .before .before .before .before .before .before .before .admit .ensures)))))
+unfolding effect
+returns-2 c = let a = c .before .before .before .before .before .before .before .before .before .before .before .before .args in ap told (c .before .before .packet-out .ensures (a .identity)) ∙ gone-on _ _ _ (out-checks (a .identity) (a .state) (a .part .now) (a .unit) (a .medium .now) (c .before .before .before .before .before .before .before .admit .result) _ (c .before .before .before .before .before .before .before .before .fits2 .ensures) (a .packet .now) (c .before .before .before .before .before .before .before .admit .ensures)) (c .before .before .before .before .before .enum-told .given .1)
 
 pub out-parts-spec : {M : Type 1} → statement M
 out-parts-spec =

@@ -2,7 +2,7 @@
 use mathlib.Core.Path.{sym, _∙_}
 use borrow.Author.Tests.{not-true, not-false}
 use Rattle.machine.specs.Machine as machine
-use Rattle.cevents.specs.Events.{lent}
+use Rattle.machine.specs.Machine.{lent}
 use Rattle.cevents.proofs.Turns.{undecoded, decoded}
 use borrow.Author.Needs.{needs}
 use Rattle.cevents.proofs.turn.any_out.Statement.{statement}
@@ -26,6 +26,9 @@ identity-from-requires c κs = search needs
 state-from-requires : tie.Need-state-from-requires
 state-from-requires c κs = search needs
 
+unit-from-requires : tie.Need-unit-from-requires
+unit-from-requires c κs = search needs
+
 out-parts-requires : tie.Need-out-parts-requires
 out-parts-requires c κs = search needs
 
@@ -40,8 +43,8 @@ same-length c = search needs
 
 returns-2 : tie.Need-returns-2
 returns-2 c =
-    let a = c .before .before .before .before .before .before .before .before .before .before .before .before .before .before .args in
-    decoded (a .given) (a .flat) _ (machine.bulkOut (a .packet .now)) (a .part .now) (a .medium .now) _ _ _ (c .before .before .before .before .before .out-parts .result .state) (c .before .before .before .before .before .out-parts .result .answer) _ _ _ (sym (c .before .before .before .before .before .before .before .before .before .before .before .decodes .ensures) ∙ not-false _ (c .before .before .before .before .before .before .before .before .before .before .if1 .left)) (c .before .before .before .before .before .before .before .before .before .identity-from .ensures) (c .before .before .before .before .before .before .before .before .state-from .ensures) (c .before .before .before .before .before .out-parts .ensures) (c .before .told .ensures) (c .flat-of .ensures)
+    let a = c .before .before .before .before .before .before .before .before .before .before .before .before .before .before .before .before .args in
+    decoded (a .given) (a .flat) _ (machine.bulkOut (a .packet .now)) (a .part .now) (a .medium .now) _ _ _ _ (c .before .before .before .before .before .before .out-parts .result) _ _ _ (sym (c .before .before .before .before .before .before .before .before .before .before .before .before .before .decodes .ensures) ∙ not-false _ (c .before .before .before .before .before .before .before .before .before .before .before .before .if1 .left)) (c .before .before .before .before .before .before .before .before .before .before .before .identity-from .ensures) (c .before .before .before .before .before .before .before .before .before .before .state-from .ensures) (c .before .before .before .before .before .before .before .before .before .unit-from .ensures) (c .before .before .before .before .before .before .out-parts .ensures) (c .before .told .ensures) (c .flat-of .ensures)
 
 pub any-out-spec : {M : Type 1} → statement M
 any-out-spec =
@@ -52,6 +55,7 @@ any-out-spec =
     returns
     identity-from-requires
     state-from-requires
+    unit-from-requires
     out-parts-requires
     told-requires
     flat-of-requires

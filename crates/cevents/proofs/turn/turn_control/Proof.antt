@@ -2,7 +2,7 @@
 use mathlib.Core.Path.{sym, _∙_}
 use borrow.Author.Tests.{not-true, not-false}
 use Rattle.machine.specs.Machine as machine
-use Rattle.cevents.specs.Events.{lent}
+use Rattle.machine.specs.Machine.{lent}
 use Rattle.cevents.proofs.Turns.{undecoded, decoded, unchanged}
 use borrow.Author.Needs.{needs}
 use Rattle.cevents.proofs.turn.turn_control.Statement.{statement}
@@ -27,6 +27,9 @@ identity-from-requires c κs = search needs
 state-from-requires : tie.Need-state-from-requires
 state-from-requires c κs = search needs
 
+unit-from-requires : tie.Need-unit-from-requires
+unit-from-requires c κs = search needs
+
 control-parts-requires : tie.Need-control-parts-requires
 control-parts-requires c κs = search needs
 
@@ -39,8 +42,8 @@ same-length c = search needs
 returns-2 : tie.Need-returns-2
 returns-2 c =
     λ m.
-    let a = c .before .before .before .before .before .before .before .before .before .before .before .before .before .before .args in
-    unchanged (a .given) (a .flat) (a .setup .now) (a .part .now) m (a .buffer .now) _ _ _ _ (c .before .before .before .before .before .control-parts .result .state) (c .before .before .before .before .before .control-parts .result .answer) _ (sym (c .before .before .before .before .before .before .before .before .before .before .before .decodes .ensures) ∙ not-false _ (c .before .before .before .before .before .before .before .before .before .before .if1 .left)) (c .before .before .before .before .before .before .before .before .before .identity-from .ensures) (c .before .before .before .before .before .before .before .before .state-from .ensures) (c .before .before .before .before .before .control-parts .ensures m) (c .before .told .ensures) (c .if2 .taken)
+    let a = c .before .before .before .before .before .before .before .before .before .before .before .before .before .before .before .before .args in
+    unchanged (a .given) (a .flat) (a .setup .now) (a .part .now) m (a .buffer .now) _ _ _ _ _ (c .before .before .before .before .before .before .control-parts .result) _ (sym (c .before .before .before .before .before .before .before .before .before .before .before .before .before .decodes .ensures) ∙ not-false _ (c .before .before .before .before .before .before .before .before .before .before .before .before .if1 .left)) (c .before .before .before .before .before .before .before .before .before .before .before .identity-from .ensures) (c .before .before .before .before .before .before .before .before .before .before .state-from .ensures) (c .before .before .before .before .before .before .before .before .before .unit-from .ensures) (c .before .before .before .before .before .before .control-parts .ensures m) (c .before .told .ensures) (c .if2 .taken)
 
 flat-of-requires : tie.Need-flat-of-requires
 flat-of-requires c κs = search needs
@@ -51,8 +54,8 @@ same-length-2 c = search needs
 returns-3 : tie.Need-returns-3
 returns-3 c =
     λ m.
-    let a = c .before .before .before .before .before .before .before .before .before .before .before .before .before .before .before .args in
-    decoded (a .given) (a .flat) _ (machine.control (a .setup .now) (a .buffer .now)) (a .part .now) (m) _ _ _ (c .before .before .before .before .before .before .control-parts .result .state) (c .before .before .before .before .before .before .control-parts .result .answer) _ _ _ (sym (c .before .before .before .before .before .before .before .before .before .before .before .before .decodes .ensures) ∙ not-false _ (c .before .before .before .before .before .before .before .before .before .before .before .if1 .left)) (c .before .before .before .before .before .before .before .before .before .before .identity-from .ensures) (c .before .before .before .before .before .before .before .before .before .state-from .ensures) (c .before .before .before .before .before .before .control-parts .ensures m) (c .before .before .told .ensures) (c .flat-of .ensures)
+    let a = c .before .before .before .before .before .before .before .before .before .before .before .before .before .before .before .before .before .args in
+    decoded (a .given) (a .flat) _ (machine.control (a .setup .now) (a .buffer .now)) (a .part .now) (m) _ _ _ _ (c .before .before .before .before .before .before .before .control-parts .result) _ _ _ (sym (c .before .before .before .before .before .before .before .before .before .before .before .before .before .before .decodes .ensures) ∙ not-false _ (c .before .before .before .before .before .before .before .before .before .before .before .before .before .if1 .left)) (c .before .before .before .before .before .before .before .before .before .before .before .before .identity-from .ensures) (c .before .before .before .before .before .before .before .before .before .before .before .state-from .ensures) (c .before .before .before .before .before .before .before .before .before .before .unit-from .ensures) (c .before .before .before .before .before .before .before .control-parts .ensures m) (c .before .before .told .ensures) (c .flat-of .ensures)
 
 pub turn-control-spec : {M : Type 1} → statement M
 turn-control-spec =
@@ -63,6 +66,7 @@ turn-control-spec =
     returns
     identity-from-requires
     state-from-requires
+    unit-from-requires
     control-parts-requires
     told-requires
     same-length

@@ -36,10 +36,7 @@ part-put-packet-start c = search needs
 part-put-packet-end : tie.Need-part-put-packet-end
 part-put-packet-end c =
     let w = c .before .before .reads-on .ensures (not-false _ (c .before .if1 .left)) in
-    let r = reading _ _ _ _ w in
-    let l = r .within in
-    let m = w .more in
-    omega arith
+    omega (arith, reading _ _ _ _ w .within, w .more)
 
 put-packet-requires : tie.Need-put-packet-requires
 put-packet-requires c κs = search needs
@@ -47,24 +44,17 @@ put-packet-requires c κs = search needs
 sub-moved-on : tie.Need-sub-moved-on
 sub-moved-on c =
     let w = c .before .before .before .before .before .before .before .reads-on .ensures (not-false _ (c .before .before .before .before .before .before .if1 .left)) in
-    let r = reading _ _ _ _ w in
-    let d = r .due in
-    let m = w .more in
-    omega arith
+    omega (arith, reading _ _ _ _ w .due, w .more)
 
 add-moved-on : tie.Need-add-moved-on
 add-moved-on c =
     let w = c .before .before .before .before .before .before .before .reads-on .ensures (not-false _ (c .before .before .before .before .before .before .if1 .left)) in
-    let r = reading _ _ _ _ w in
-    let l = r .within in
-    let s = r .small in
-    record { fits = omega arith }
+    record { fits = omega (arith, reading _ _ _ _ w .within, reading _ _ _ _ w .small) }
 
 sub-moved-on-2 : tie.Need-sub-moved-on-2
 sub-moved-on-2 c =
     let w = c .before .before .before .before .before .before .before .before .reads-on .ensures (not-false _ (c .before .before .before .before .before .before .before .if1 .left)) in
-    let m = w .more in
-    omega arith
+    omega (arith, w .more)
 
 moved-on-requires : tie.Need-moved-on-requires
 moved-on-requires c κs = search needs

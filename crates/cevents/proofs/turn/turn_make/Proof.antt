@@ -21,8 +21,8 @@ flat-of-requires c κs = search needs
 
 returns : tie.Need-returns
 returns c =
-    let a = c .before .before .before .before .before .before .before .before .args in
-    making (a .given) (a .medium .now) _ (c .before .before .before .before .before .make .result .answer) (c .before .before .before .before .before .make .result .device) _ _ _ (c .before .before .before .before .before .before .identity-from .ensures) (c .before .before .before .before .before .make .ensures) (c .before .before .before .told .ensures) (c .before .before .given-of .ensures) (c .before .flat-of .ensures)
+    let a = c .before .before .before .before .before .before .before .before .before .args in
+    making (a .given) (a .medium .now) _ (c .before .before .before .before .before .before .make .result) _ _ _ (c .before .before .before .before .before .before .before .identity-from .ensures) (c .before .before .before .before .before .before .make .ensures) (c .before .before .before .told .ensures) (c .before .before .given-of .ensures) (c .before .flat-of .ensures)
 
 pub turn-make-spec : {M : Type 1} → statement M
 turn-make-spec =

@@ -29,16 +29,12 @@ put-packet-requires c κs = search needs
 add-if2 : tie.Need-add-if2
 add-if2 c =
     let w = c .before .before .before .gathers .ensures (not-false _ (c .before .before .if1 .left)) in
-    let r = writing _ _ _ _ w in
-    let h = r .room in
-    record { fits = omega arith }
+    record { fits = omega (arith, writing _ _ _ _ w .room) }
 
 add-acked : tie.Need-add-acked
 add-acked c =
     let w = c .before .before .before .before .gathers .ensures (not-false _ (c .before .before .before .if1 .left)) in
-    let r = writing _ _ _ _ w in
-    let h = r .room in
-    record { fits = omega arith }
+    record { fits = omega (arith, writing _ _ _ _ w .room) }
 
 acked-requires : tie.Need-acked-requires
 acked-requires c κs = search needs
@@ -61,24 +57,17 @@ put-requires c κs = search needs
 sub-acked : tie.Need-sub-acked
 sub-acked c =
     let w = c .before .before .before .before .before .before .before .before .before .before .before .before .gathers .ensures (not-false _ (c .before .before .before .before .before .before .before .before .before .before .before .if1 .left)) in
-    let r = writing _ _ _ _ w in
-    let d = r .due in
-    let m = w .more in
-    omega arith
+    omega (arith, writing _ _ _ _ w .due, w .more)
 
 add-acked-2 : tie.Need-add-acked-2
 add-acked-2 c =
     let w = c .before .before .before .before .before .before .before .before .before .before .before .before .gathers .ensures (not-false _ (c .before .before .before .before .before .before .before .before .before .before .before .if1 .left)) in
-    let r = writing _ _ _ _ w in
-    let l = r .within in
-    record { fits = omega arith }
+    record { fits = omega (arith, writing _ _ _ _ w .within) }
 
 sub-acked-2 : tie.Need-sub-acked-2
 sub-acked-2 c =
     let w = c .before .before .before .before .before .before .before .before .before .before .before .before .before .gathers .ensures (not-false _ (c .before .before .before .before .before .before .before .before .before .before .before .before .if1 .left)) in
-    let r = writing _ _ _ _ w in
-    let m = w .more in
-    omega arith
+    omega (arith, w .more)
 
 acked-requires-2 : tie.Need-acked-requires-2
 acked-requires-2 c κs = search needs

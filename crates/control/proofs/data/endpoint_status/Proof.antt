@@ -28,7 +28,7 @@ same-length c = search needs
 returns : tie.Need-returns
 unfolding endpointStatus
 returns c =
-    λ i p. simp (c .before .before .before .before .enum-told .given .1) (c .before .before .send-flag .ensures i p)
+    λ w. simp (c .before .before .before .before .enum-told .given .1) (c .before .before .send-flag .ensures w)
 
 same-length-2 : tie.Need-same-length-2
 same-length-2 c = search needs
@@ -36,7 +36,7 @@ same-length-2 c = search needs
 returns-2 : tie.Need-returns-2
 unfolding endpointStatus
 returns-2 c =
-    λ i p. simp (c .before .before .before .before .enum-told2 .given .1) (c .before .before .send-configured .ensures i p)
+    λ w. simp (c .before .before .before .before .enum-told2 .given .1) (c .before .before .send-configured .ensures w)
 
 same-length-3 : tie.Need-same-length-3
 same-length-3 c = search needs
@@ -44,7 +44,7 @@ same-length-3 c = search needs
 returns-3 : tie.Need-returns-3
 unfolding endpointStatus
 returns-3 c =
-    λ i p. simp (c .before .before .before .before .enum-told3 .given .1) (c .before .before .send-configured2 .ensures i p)
+    λ w. simp (c .before .before .before .before .enum-told3 .given .1) (c .before .before .send-configured2 .ensures w)
 
 pub endpoint-status-spec : {M : Type 1} → statement M
 endpoint-status-spec =

@@ -16,7 +16,7 @@ same-length c = search needs
 
 returns : tie.Need-returns
 unfolding perform if_then_else_
-returns c = λ i p. simp (c .before .before .before .before .before .if1 .taken) (c .before .before .send .ensures i p)
+returns c = λ w. simp (c .before .before .before .before .before .if1 .taken) (c .before .before .send .ensures w)
 
 slice-aggregate-send-2 : tie.Need-slice-aggregate-send-2
 slice-aggregate-send-2 c = search needs
@@ -29,7 +29,7 @@ same-length-2 c = search needs
 
 returns-2 : tie.Need-returns-2
 unfolding perform if_then_else_
-returns-2 c = λ i p. simp (c .before .before .before .before .before .if1 .left) (c .before .before .send2 .ensures i p)
+returns-2 c = λ w. simp (c .before .before .before .before .before .if1 .left) (c .before .before .send2 .ensures w)
 
 pub get-configuration-spec : {M : Type 1} → statement M
 get-configuration-spec =

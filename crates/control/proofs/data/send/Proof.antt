@@ -10,7 +10,7 @@ same-length : tie.Need-same-length
 same-length c = search needs
 
 returns : tie.Need-returns
-returns c = λ i p. simp (c .before .before .put .ensures .1)
+returns c = λ w. simp (c .before .before .put .ensures .1)
 
 pub send-spec : {M : Type 1} → statement M
 send-spec = tie.close (tie.spec put-requires same-length returns)

@@ -8,7 +8,7 @@ use Rattle.control.proofs.data.send_configured.Tie as tie
 
 returns : tie.Need-returns
 unfolding needsConfigured if_then_else_
-returns c = λ i p. simp (not-true (c .before .before .args .state .configured) (c .if1 .taken))
+returns c = λ w. simp (not-true (c .before .before .args .state .configured) (c .if1 .taken))
 
 send-flag-requires : tie.Need-send-flag-requires
 send-flag-requires c κs = search needs
@@ -19,7 +19,7 @@ same-length c = search needs
 returns-2 : tie.Need-returns-2
 unfolding needsConfigured if_then_else_
 returns-2 c =
-    λ i p. simp (not-false (c .before .before .before .before .before .before .args .state .configured) (c .before .before .before .before .if1 .left)) (c .before .before .send-flag .ensures i p)
+    λ w. simp (not-false (c .before .before .before .before .before .before .args .state .configured) (c .before .before .before .before .if1 .left)) (c .before .before .send-flag .ensures w)
 
 pub send-configured-spec : {M : Type 1} → statement M
 send-configured-spec = tie.close (tie.spec returns send-flag-requires same-length returns-2)

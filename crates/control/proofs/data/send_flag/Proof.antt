@@ -18,7 +18,7 @@ same-length c = search needs
 
 returns : tie.Need-returns
 returns c =
-    λ i p. simp (sym (c .before .before .before .before .before .flag .ensures)) (c .before .before .send .ensures i p)
+    λ w. simp (sym (c .before .before .before .before .before .flag .ensures)) (c .before .before .send .ensures w)
 
 pub send-flag-spec : {M : Type 1} → statement M
 send-flag-spec = tie.close (tie.spec flag-requires slice-aggregate-send send-requires same-length returns)

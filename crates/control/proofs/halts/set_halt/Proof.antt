@@ -28,17 +28,17 @@ acked-requires-2 c κs = search needs
 
 returns : tie.Need-returns
 unfolding setHalt
-returns c = λ i p b. simp (c .enum-told .given .1)
+returns c = λ w b. simp (c .enum-told .given .1)
 
 returns-2 : tie.Need-returns-2
 unfolding setHalt
 returns-2 c =
-    λ i p b. simp (c .before .before .enum-told2 .given .1, sym (c .before .halt-in .ensures)) (c .acked .ensures i p b)
+    λ w b. simp (c .before .before .enum-told2 .given .1, sym (c .before .halt-in .ensures)) (c .acked .ensures w b)
 
 returns-3 : tie.Need-returns-3
 unfolding setHalt
 returns-3 c =
-    λ i p b. simp (c .before .before .enum-told3 .given .1, sym (c .before .halt-out .ensures)) (c .acked2 .ensures i p b)
+    λ w b. simp (c .before .before .enum-told3 .given .1, sym (c .before .halt-out .ensures)) (c .acked2 .ensures w b)
 
 pub set-halt-spec : {M : Type 1} → statement M
 set-halt-spec =

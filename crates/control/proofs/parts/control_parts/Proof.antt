@@ -1,7 +1,10 @@
 -- `control_parts` meets its contract. Assumes nothing.
+use mathlib.Core.Path.{ap, _∙_}
+use mathlib.Core.List.{[], _∷_}
 use Rattle.machine.specs.Record.{device}
-use Rattle.state.proofs.Gates.{goes-on}
-use Rattle.control.proofs.Admission.{shut-control, open-control}
+use Rattle.machine.specs.World.{world}
+use Rattle.machine.specs.Machine.{lent, checks, effect, control, told}
+use Rattle.state.proofs.Gates.{refused, gone-on}
 use borrow.Author.Needs.{needs}
 use Rattle.control.proofs.parts.control_parts.Statement.{statement}
 use Rattle.control.proofs.parts.control_parts.Tie as tie
@@ -25,19 +28,22 @@ perform-requires : tie.Need-perform-requires
 perform-requires c κs = search needs
 
 returns : tie.Need-returns
+unfolding lent checks
 returns c =
     λ m.
     let a = c .before .before .before .before .before .before .before .args in
-    shut-control (device (a .identity) (a .state) (a .part .now)) m (a .setup .now) (a .buffer .now) _ _ (c .before .answer .given .1) (simp (c .before .before .before .before .fits2 .ensures) at (c .before .before .before .admit .ensures))
+    refused _ (world (device (a .identity) (a .state) (a .part .now)) (a .unit ∷ []) m) (control (a .setup .now) (a .buffer .now)) (simp (c .before .before .before .before .fits2 .ensures) at (c .before .before .before .admit .ensures)) _ (c .before .answer .given .1)
 
 same-length : tie.Need-same-length
 same-length c = search needs
 
 returns-2 : tie.Need-returns-2
+unfolding checks effect
 returns-2 c =
     λ m.
     let a = c .before .before .before .before .before .before .before .before .before .before .before .before .args in
-    open-control (device (a .identity) (a .state) (a .part .now)) m (a .setup .now) (a .buffer .now) _ _ _ _ (goes-on _ _ (c .before .before .before .before .before .before .enum-told .given .1) (simp (c .before .before .before .before .before .before .before .before .before .fits2 .ensures) at (c .before .before .before .before .before .before .before .before .admit .ensures))) (c .before .before .before .before .before .request-of .ensures) (c .before .before .perform .ensures)
+    ap told (simp (c .before .before .before .before .before .request-of .ensures) at (c .before .before .perform .ensures m))
+    ∙ gone-on _ (world (device (a .identity) (a .state) (a .part .now)) (a .unit ∷ []) m) (control (a .setup .now) (a .buffer .now)) (simp (c .before .before .before .before .before .before .before .before .before .fits2 .ensures) at (c .before .before .before .before .before .before .before .before .admit .ensures)) (c .before .before .before .before .before .before .enum-told .given .1)
 
 pub control-parts-spec : {M : Type 1} → statement M
 control-parts-spec =

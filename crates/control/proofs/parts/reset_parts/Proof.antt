@@ -1,10 +1,11 @@
 -- `reset_parts` meets its contract. Assumes nothing.
-use mathlib.Core.Path.{sym, ap}
-use Rattle.machine.specs.Record.{dropped, device}
+use mathlib.Core.Path.{ap, _∙_}
+use mathlib.Core.List.{[], _∷_}
+use Rattle.machine.specs.Record.{device}
+use Rattle.machine.specs.World.{world}
 use Rattle.machine.specs.Control.{reset}
-use Rattle.machine.specs.Machine.{told}
-use Rattle.state.proofs.Gates.{goes-on}
-use Rattle.control.proofs.Admission.{shut-reset, open-reset}
+use Rattle.machine.specs.Machine.{lent, checks, effect, busReset, told}
+use Rattle.state.proofs.Gates.{refused, gone-on}
 use borrow.Author.Needs.{needs}
 use Rattle.control.proofs.parts.reset_parts.Statement.{statement}
 use Rattle.control.proofs.parts.reset_parts.Tie as tie
@@ -21,24 +22,23 @@ enum-known-answer c = search needs
 enum-told : tie.Need-enum-told
 enum-told c = search needs
 
-wipe-requires : tie.Need-wipe-requires
-wipe-requires c κs = search needs
-
-dropped-state-requires : tie.Need-dropped-state-requires
-dropped-state-requires c κs = search needs
+drop-command-requires : tie.Need-drop-command-requires
+drop-command-requires c κs = search needs
 
 returns : tie.Need-returns
+unfolding lent checks
 returns c =
     λ m.
     let a = c .before .before .before .before .before .args in
-    shut-reset (device (a .identity) (a .state) (a .part .now)) m _ _ (c .before .answer .given .1) (simp (c .before .before .before .before .fits2 .ensures) at (c .before .before .before .admit .ensures))
+    refused _ (world (device (a .identity) (a .state) (a .part .now)) (a .unit ∷ []) m) busReset (simp (c .before .before .before .before .fits2 .ensures) at (c .before .before .before .admit .ensures)) _ (c .before .answer .given .1)
 
 returns-2 : tie.Need-returns-2
-unfolding reset dropped
+unfolding checks effect reset
 returns-2 c =
     λ m.
-    let a = c .before .before .before .before .before .before .before .args in
-    simp (c .dropped-state .ensures, c .before .wipe .ensures) (ap told (sym (open-reset (device (a .identity) (a .state) (a .part .now)) m (goes-on _ _ (c .before .before .before .enum-told .given .1) (simp (c .before .before .before .before .before .before .fits2 .ensures) at (c .before .before .before .before .before .admit .ensures))))))
+    let a = c .before .before .before .before .before .before .args in
+    ap told (c .drop-command .ensures (a .identity) (a .state) m [])
+    ∙ gone-on _ (world (device (a .identity) (a .state) (a .part .now)) (a .unit ∷ []) m) busReset (simp (c .before .before .before .before .before .fits2 .ensures) at (c .before .before .before .before .admit .ensures)) (c .before .before .enum-told .given .1)
 
 pub reset-parts-spec : {M : Type 1} → statement M
 reset-parts-spec =
@@ -48,7 +48,6 @@ reset-parts-spec =
     admit-requires
     enum-known-answer
     enum-told
-    wipe-requires
-    dropped-state-requires
+    drop-command-requires
     returns
     returns-2)

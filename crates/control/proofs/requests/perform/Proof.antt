@@ -1,4 +1,7 @@
 -- `perform` meets its contract. Assumes nothing.
+use mathlib.Core.List.{[]}
+use Rattle.machine.specs.Record.{device, noDevice}
+use Rattle.machine.specs.World.{world}
 use Rattle.machine.specs.Control.{perform}
 use borrow.Author.Needs.{needs}
 use Rattle.control.proofs.requests.perform.Statement.{statement}
@@ -75,11 +78,11 @@ enum-told-6 c = search needs
 
 returns : tie.Need-returns
 unfolding perform
-returns c = simp (c .before .before .request .given .1) (c .set-address .ensures _ _ _)
+returns c = λ m. simp (c .before .before .request .given .1) (c .set-address .ensures (world (device _ (noDevice .state) _) [] m) _)
 
 returns-2 : tie.Need-returns-2
 unfolding perform
-returns-2 c = simp (c .before .before .before .request2 .given .1) (c .set-configuration .ensures _ _)
+returns-2 c = λ m. simp (c .before .before .before .request2 .given .1) (c .set-configuration .ensures _ m _)
 
 same-length : tie.Need-same-length
 same-length c = search needs
@@ -87,7 +90,7 @@ same-length c = search needs
 returns-3 : tie.Need-returns-3
 unfolding perform
 returns-3 c =
-    simp (c .before .before .before .before .enum-told .given .1) (c .before .before .get-configuration .ensures _ _)
+    λ m. simp (c .before .before .before .before .enum-told .given .1) (c .before .before .get-configuration .ensures (world (device _ (noDevice .state) _) [] m))
 
 same-length-2 : tie.Need-same-length-2
 same-length-2 c = search needs
@@ -95,7 +98,7 @@ same-length-2 c = search needs
 returns-4 : tie.Need-returns-4
 unfolding perform
 returns-4 c =
-    simp (c .before .before .before .before .enum-told2 .given .1) (c .before .before .send-flag .ensures _ _)
+    λ m. simp (c .before .before .before .before .enum-told2 .given .1) (c .before .before .send-flag .ensures (world (device _ (noDevice .state) _) [] m))
 
 same-length-3 : tie.Need-same-length-3
 same-length-3 c = search needs
@@ -103,7 +106,7 @@ same-length-3 c = search needs
 returns-5 : tie.Need-returns-5
 unfolding perform
 returns-5 c =
-    simp (c .before .before .before .before .enum-told3 .given .1) (c .before .before .send-configured .ensures _ _)
+    λ m. simp (c .before .before .before .before .enum-told3 .given .1) (c .before .before .send-configured .ensures (world (device _ (noDevice .state) _) [] m))
 
 same-length-4 : tie.Need-same-length-4
 same-length-4 c = search needs
@@ -111,19 +114,19 @@ same-length-4 c = search needs
 returns-6 : tie.Need-returns-6
 unfolding perform
 returns-6 c =
-    simp (c .before .before .before .before .before .request3 .given .1) (c .before .before .endpoint-status .ensures _ _)
+    λ m. simp (c .before .before .before .before .before .request3 .given .1) (c .before .before .endpoint-status .ensures (world (device _ (noDevice .state) _) [] m))
 
 returns-7 : tie.Need-returns-7
 unfolding perform
-returns-7 c = simp (c .before .before .request4 .given .1) (c .clear-halt .ensures _ _ _)
+returns-7 c = λ m. simp (c .before .before .request4 .given .1) (c .clear-halt .ensures (world (device _ (noDevice .state) _) [] m) _)
 
 returns-8 : tie.Need-returns-8
 unfolding perform
-returns-8 c = simp (c .before .before .request5 .given .1) (c .set-halt .ensures _ _ _)
+returns-8 c = λ m. simp (c .before .before .request5 .given .1) (c .set-halt .ensures (world (device _ (noDevice .state) _) [] m) _)
 
 returns-9 : tie.Need-returns-9
 unfolding perform
-returns-9 c = simp (c .before .before .enum-told4 .given .1) (c .mass-storage-reset .ensures _ _)
+returns-9 c = λ m. simp (c .before .before .enum-told4 .given .1) (c .mass-storage-reset .ensures _ m _)
 
 same-length-5 : tie.Need-same-length-5
 same-length-5 c = search needs
@@ -131,7 +134,7 @@ same-length-5 c = search needs
 returns-10 : tie.Need-returns-10
 unfolding perform
 returns-10 c =
-    simp (c .before .before .before .before .enum-told5 .given .1) (c .before .before .get-max-lun .ensures _ _)
+    λ m. simp (c .before .before .before .before .enum-told5 .given .1) (c .before .before .get-max-lun .ensures (world (device _ (noDevice .state) _) [] m))
 
 same-length-6 : tie.Need-same-length-6
 same-length-6 c = search needs
@@ -139,11 +142,11 @@ same-length-6 c = search needs
 returns-11 : tie.Need-returns-11
 unfolding perform
 returns-11 c =
-    simp (c .before .before .before .before .before .request6 .given .1) (c .before .before .get-descriptor .ensures _)
+    λ m. simp (c .before .before .before .before .before .request6 .given .1) (c .before .before .get-descriptor .ensures _ m)
 
 returns-12 : tie.Need-returns-12
 unfolding perform
-returns-12 c = simp (c .enum-told6 .given .1)
+returns-12 c = λ m. simp (c .enum-told6 .given .1)
 
 pub perform-spec : {M : Type 1} → statement M
 perform-spec =

@@ -1,19 +1,12 @@
 -- `played` meets its contract. Assumes nothing.
-use mathlib.Core.Path.{_≡_, sym, ap, _∙_}
-use mathlib.Core.Bool.{Bool}
+use mathlib.Core.Path.{sym, _∙_}
 use native.Mathlib.Omega.{arith}
-use lib.Dec.{eqb}
 use borrow.Author.Tests.{not-true, not-false}
-use Rattle.machine.specs.Making.{ToldMade}
 use Rattle.recording.proofs.Parses.{sound}
-use Rattle.player.proofs.Playing.{front-fits, plays, misfits, made-number, heading-length}
+use Rattle.player.proofs.Playing.{front-fits, plays, misfits, served, heading-length}
 use borrow.Author.Needs.{needs}
 use Rattle.player.proofs.play.played.Statement.{statement}
 use Rattle.player.proofs.play.played.Tie as tie
-
--- whether a collector was made, by the answer's number
-abbrev acked : ToldMade → Bool
-acked t = eqb (t .number) 1
 
 make-requires : tie.Need-make-requires
 make-requires c κs = search needs
@@ -31,7 +24,7 @@ returns : tie.Need-returns
 returns c =
     let a = c .before .before .before .is-ack .ensures in
     let m = c .before .before .before .before .make .ensures in
-    misfits _ _ _ _ _ _ (c .before .before .before .before .before .before .before .before .pre) (sym (made-number _) ∙ sym (ap acked m) ∙ sym a ∙ not-true _ (c .before .before .if1 .taken)) (omega arith) (front-fits _ _ _ _ (omega arith) (c .refusal .ensures))
+    misfits _ _ _ _ _ _ (c .before .before .before .before .before .before .before .before .pre) (served _ _ m ∙ sym a ∙ not-true _ (c .before .before .if1 .taken)) (omega arith) (front-fits _ _ _ _ (omega arith) (c .refusal .ensures))
 
 count-of-requires : tie.Need-count-of-requires
 count-of-requires c κs = search needs
@@ -41,7 +34,7 @@ heading-requires c κs = search needs
 
 events-requires : tie.Need-events-requires
 events-requires c κs = let n = c .before .before .before .before .count-of in
-    let w = sound _ _ (c .before .before .before .before .before .before .before .before .before .before .before .before .pre) (n .ensures) in
+    let w = sound _ _ (c .before .before .before .before .before .before .before .before .before .before .before .before .before .pre) (n .ensures) in
     let h = front-fits _ _ _ _ (omega arith) (c .before .before .heading .ensures) .place in
     let l = heading-length (n .result) in
     let few = w .few in
@@ -53,12 +46,12 @@ same-length-2 c = search needs
 returns-2 : tie.Need-returns-2
 returns-2 c =
     let e = c .before .before .events .ensures in
-    let a = c .before .before .before .before .before .before .before .before .before .before .is-ack .ensures in
-    let m = c .before .before .before .before .before .before .before .before .before .before .before .make .ensures in
+    let a = c .before .before .before .before .before .before .before .before .before .before .before .is-ack .ensures in
+    let m = c .before .before .before .before .before .before .before .before .before .before .before .before .make .ensures in
     plays _ _ _ _ _ _ _ _ _ _
-    (c .before .before .before .before .before .before .before .before .before .before .before .before .before .before .before .pre)
-    (sym (made-number _) ∙ sym (ap acked m) ∙ sym a ∙ not-false _ (c .before .before .before .before .before .before .before .before .before .if1 .left))
-    (ap (λ (t : ToldMade). t .dev) m)
+    (c .before .before .before .before .before .before .before .before .before .before .before .before .before .before .before .before .pre)
+    (served _ _ m ∙ sym a ∙ not-false _ (c .before .before .before .before .before .before .before .before .before .before .if1 .left))
+    m
     (c .before .before .before .before .before .before .before .count-of .ensures)
     (front-fits _ _ _ _ (omega arith) (c .before .before .before .before .before .heading .ensures))
     (e .0)

@@ -6,15 +6,15 @@ use borrow.Author.Needs.{needs}
 use Rattle.player.proofs.turns.ask.Statement.{statement}
 use Rattle.player.proofs.turns.ask.Tie as tie
 
-slice-aggregate-bulk-in : tie.Need-slice-aggregate-bulk-in
-slice-aggregate-bulk-in c = search needs
+slice-aggregate-in-parts : tie.Need-slice-aggregate-in-parts
+slice-aggregate-in-parts c = search needs
 
-bulk-in-requires : tie.Need-bulk-in-requires
-bulk-in-requires c κs = search needs
+in-parts-requires : tie.Need-in-parts-requires
+in-parts-requires c κs = search needs
 
 returns : tie.Need-returns
 unfolding zeros
-returns c = let r = c .before .before .bulk-in in ends-whole (r .result .answer) (r .result .device) (r .last .1 .1 .0) _ _ (omega arith) (r .ensures)
+returns c = let r = c .before .before .before .in-parts in ends-whole (r .result .answer) _ (r .result .unit) _ _ _ (omega arith) (r .ensures _)
 
 pub ask-spec : {M : Type 1} → statement M
-ask-spec = tie.close (tie.spec slice-aggregate-bulk-in bulk-in-requires returns)
+ask-spec = tie.close (tie.spec slice-aggregate-in-parts in-parts-requires returns)

@@ -1,7 +1,4 @@
 -- `event` meets its contract. Assumes nothing.
-use mathlib.Core.Path.{sym, ap}
-use Rattle.machine.specs.Machine.{step}
-use Rattle.recording.specs.declared.cursor.Kind.{Kind}
 use Rattle.recording.specs.Format.{eventOf}
 use Rattle.player.proofs.Answers.{ends-as}
 use borrow.Author.Needs.{needs}
@@ -40,29 +37,29 @@ reset-requires-2 c κs = search needs
 
 returns : tie.Need-returns
 unfolding eventOf
-returns c = let a = c .before .before .before .before .before .args in ends-as _ _ _ _ (sym (ap (λ (k : Kind). step (a .device) (a .medium .now) (eventOf k (a .body .now))) (c .before .enum-told .given .1))) (c .reset .ensures (a .medium .now))
+returns c = ends-as _ _ _ _ _ _ (c .before .enum-told .given .1) (c .reset .ensures _)
 
 returns-2 : tie.Need-returns-2
 unfolding eventOf
-returns-2 c = let a = c .before .before .before .before .before .args in ends-as _ _ _ _ (sym (ap (λ (k : Kind). step (a .device) (a .medium .now) (eventOf k (a .body .now))) (c .before .enum-told2 .given .1))) (c .request .ensures (a .medium .now))
+returns-2 c = ends-as _ _ _ _ _ _ (c .before .enum-told2 .given .1) (c .request .ensures _)
 
 same-length : tie.Need-same-length
 same-length c = search needs
 
 returns-3 : tie.Need-returns-3
 unfolding eventOf
-returns-3 c = let a = c .before .before .before .before .before .before .before .before .args in ends-as _ _ _ _ (sym (ap (λ (k : Kind). step (a .device) (a .medium .now) (eventOf k (a .body .now))) (c .before .before .before .before .enum-told3 .given .1))) (c .before .before .packet .ensures)
+returns-3 c = ends-as _ _ _ _ _ _ (c .before .before .before .before .enum-told3 .given .1) (c .before .before .packet .ensures)
 
 same-length-2 : tie.Need-same-length-2
 same-length-2 c = search needs
 
 returns-4 : tie.Need-returns-4
 unfolding eventOf
-returns-4 c = let a = c .before .before .before .before .before .before .args in ends-as _ _ _ _ (sym (ap (λ (k : Kind). step (a .device) (a .medium .now) (eventOf k (a .body .now))) (c .before .before .enum-told4 .given .1))) (c .ask .ensures)
+returns-4 c = ends-as _ _ _ _ _ _ (c .before .before .enum-told4 .given .1) (c .ask .ensures)
 
 returns-5 : tie.Need-returns-5
 unfolding eventOf
-returns-5 c = let a = c .before .before .before .before .before .args in ends-as _ _ _ _ (sym (ap (λ (k : Kind). step (a .device) (a .medium .now) (eventOf k (a .body .now))) (c .before .enum-told5 .given .1))) (c .reset2 .ensures (a .medium .now))
+returns-5 c = ends-as _ _ _ _ _ _ (c .before .enum-told5 .given .1) (c .reset2 .ensures _)
 
 pub event-spec : {M : Type 1} → statement M
 event-spec =

@@ -1,11 +1,9 @@
 -- `play_one` meets its contract. Assumes nothing.
-use Prim.Native.Nat.{ℕ, _+_, _-_}
-use mathlib.Core.Path.{_≡_, sym, ap}
+use Prim.Native.Nat.{_+_, _-_}
+use mathlib.Core.Path.{_≡_, sym}
 use native.Mathlib.Omega.{arith}
-use lib.ListN.{take, drop}
+use lib.ListN.{take}
 use lib.Seq.{length-take-le}
-use Rattle.machine.specs.Machine.{step}
-use Rattle.recording.specs.Format.{eventOf}
 use Rattle.player.proofs.Answers.{turned, turned-as, few-lent}
 use borrow.Author.Needs.{needs}
 use borrow.Author.Tests.{le-leb}
@@ -33,10 +31,10 @@ add-line : tie.Need-add-line
 add-line c = search needs
 
 array-share-prefix-buffer : tie.Need-array-share-prefix-buffer
-array-share-prefix-buffer c = c .before .before .before .before .before .event .ensures .lent
+array-share-prefix-buffer c = c .before .before .before .before .before .before .event .ensures .lent
 
 slice-aggregate-line : tie.Need-slice-aggregate-line
-slice-aggregate-line c = sym (length-take-le _ _ (c .before .before .before .before .before .before .event .ensures .lent))
+slice-aggregate-line c = sym (length-take-le _ _ (c .before .before .before .before .before .before .before .event .ensures .lent))
 
 line-requires : tie.Need-line-requires
 line-requires c κs = search needs
@@ -49,12 +47,12 @@ same-length-2 c = search needs
 
 returns : tie.Need-returns
 returns c =
-    let a = c .before .before .before .before .before .before .before .before .before .before .before .before .before .before .before .before .before .args in
-    let r = c .before .before .before .before .before .before .before .before .before .event in
+    let a = c .before .before .before .before .before .before .before .before .before .before .before .before .before .before .before .before .before .before .before .args in
+    let r = c .before .before .before .before .before .before .before .before .before .before .event in
     let n : a .body + a .r .len - a .body ≡ a .r .len = omega arith in
     let few = few-lent _ _ _ (r .ensures) in
-    turned-as _ _ _ _ _ _ _ _ (ap (λ (k : ℕ). step (a .turn .device) (a .medium .now) (eventOf (a .r .kind) (take k (drop (a .body) (a .input .now))))) n)
-    (turned (r .result .answer) (r .result .device) _ (take (r .result .lent) (r .result .buffer)) _ _ _ _ _ _ (r .ensures .told) few (wrote-fits _ _ _ _ _ _ (and-true _ _ (room-there _ _ (c .before .before .before .before .before .before .before .before .before .before .before .before .before .before .before .before .before .pre .2)) (le-leb _ _ few)) (c .before .before .line .ensures)))
+    turned-as _ _ _ _ _ _ _ _ _ _ _ n
+    (turned (r .result .answer) (r .result .device) (r .result .unit) _ (take (r .result .lent) (r .result .buffer)) _ _ _ _ _ _ (r .ensures .told) few (wrote-fits _ _ _ _ _ _ (and-true _ _ (room-there _ _ (c .before .before .before .before .before .before .before .before .before .before .before .before .before .before .before .before .before .before .before .pre .2)) (le-leb _ _ few)) (c .before .before .line .ensures)))
 
 pub play-one-spec : {M : Type 1} → statement M
 play-one-spec =

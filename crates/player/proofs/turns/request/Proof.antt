@@ -6,15 +6,15 @@ use borrow.Author.Needs.{needs}
 use Rattle.player.proofs.turns.request.Statement.{statement}
 use Rattle.player.proofs.turns.request.Tie as tie
 
-slice-aggregate-control : tie.Need-slice-aggregate-control
-slice-aggregate-control c = search needs
+slice-aggregate-control-parts : tie.Need-slice-aggregate-control-parts
+slice-aggregate-control-parts c = search needs
 
-control-requires : tie.Need-control-requires
-control-requires c κs = search needs
+control-parts-requires : tie.Need-control-parts-requires
+control-parts-requires c κs = search needs
 
 returns : tie.Need-returns
 unfolding zeros
-returns c = λ m. let r = c .before .before .control in ends-whole (r .result .answer) (r .result .device) (r .last .1 .1 .0) m _ (omega arith) (r .ensures m)
+returns c = λ m. let r = c .before .before .before .control-parts in ends-whole (r .result .answer) _ (r .result .unit) _ m _ (omega arith) (r .ensures m)
 
 pub request-spec : {M : Type 1} → statement M
-request-spec = tie.close (tie.spec slice-aggregate-control control-requires returns)
+request-spec = tie.close (tie.spec slice-aggregate-control-parts control-parts-requires returns)

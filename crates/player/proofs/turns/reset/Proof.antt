@@ -5,11 +5,11 @@ use borrow.Author.Needs.{needs}
 use Rattle.player.proofs.turns.reset.Statement.{statement}
 use Rattle.player.proofs.turns.reset.Tie as tie
 
-bus-reset-requires : tie.Need-bus-reset-requires
-bus-reset-requires c κs = search needs
+reset-parts-requires : tie.Need-reset-parts-requires
+reset-parts-requires c κs = search needs
 
 returns : tie.Need-returns
-returns c = λ m. let r = c .before .bus-reset in ends-none (r .result .answer) (r .result .device) _ m _ refl (r .ensures m)
+returns c = λ m. let r = c .before .before .reset-parts in ends-none (r .result .answer) _ (r .result .unit) _ m _ refl (r .ensures m)
 
 pub reset-spec : {M : Type 1} → statement M
-reset-spec = tie.close (tie.spec bus-reset-requires returns)
+reset-spec = tie.close (tie.spec reset-parts-requires returns)

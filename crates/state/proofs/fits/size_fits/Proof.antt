@@ -1,7 +1,7 @@
 -- `size_fits` meets its contract. Assumes nothing.
 use borrow.Author.Tests.{le-leb, lt-leb}
 use Rattle.wire.specs.Choice.{_and_}
-use Rattle.machine.specs.Fits.{sizeFits}
+use Rattle.machine.specs.Units.{sizeFits}
 use borrow.Author.Needs.{needs}
 use Rattle.state.proofs.fits.size_fits.Statement.{statement}
 use Rattle.state.proofs.fits.size_fits.Tie as tie

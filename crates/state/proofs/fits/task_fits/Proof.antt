@@ -1,6 +1,9 @@
 -- `task_fits` meets its contract. Assumes nothing.
 use mathlib.Core.Path.{sym}
-use Rattle.machine.specs.Fits.{taskFits, outFits, inFits}
+use native.Mathlib.Omega.{arith}
+use borrow.Author.Tests.{le-ltb}
+use Rattle.wire.specs.Choice.{_and_}
+use Rattle.machine.specs.Fits.{taskFits, stageFits, lunFits}
 use borrow.Author.Needs.{needs}
 use Rattle.state.proofs.fits.task_fits.Statement.{statement}
 use Rattle.state.proofs.fits.task_fits.Tie as tie
@@ -11,11 +14,22 @@ enum-told c = search needs
 enum-known-stage : tie.Need-enum-known-stage
 enum-known-stage c = search needs
 
+returns : tie.Need-returns
+unfolding taskFits stageFits lunFits _and_
+returns c = simp (c .before .before .stage .given .1, le-ltb (c .before .before .before .before .args .task .lun) 1 (omega (arith, c .if1 .taken)))
+
 out-fits-requires : tie.Need-out-fits-requires
 out-fits-requires c κs = search needs
 
 enum-known-stage-2 : tie.Need-enum-known-stage-2
 enum-known-stage-2 c = search needs
+
+returns-2 : tie.Need-returns-2
+unfolding taskFits stageFits lunFits _and_
+returns-2 c = simp (c .before .before .stage2 .given .1, le-ltb (c .before .before .before .before .args .task .lun) 1 (omega (arith, c .if2 .taken)))
+
+cast-in-fits : tie.Need-cast-in-fits
+cast-in-fits c = search needs
 
 mul-in-fits : tie.Need-mul-in-fits
 mul-in-fits c = search needs
@@ -32,8 +46,8 @@ kind-of-requires c κs = search needs
 reply-size-requires : tie.Need-reply-size-requires
 reply-size-requires c κs = search needs
 
-cast-in-fits : tie.Need-cast-in-fits
-cast-in-fits c = search needs
+cast-in-fits-2 : tie.Need-cast-in-fits-2
+cast-in-fits-2 c = search needs
 
 in-fits-requires-2 : tie.Need-in-fits-requires-2
 in-fits-requires-2 c κs = search needs
@@ -41,26 +55,28 @@ in-fits-requires-2 c κs = search needs
 enum-told-2 : tie.Need-enum-told-2
 enum-told-2 c = search needs
 
-returns : tie.Need-returns
-unfolding taskFits outFits inFits
-returns c = simp (c .enum-told .given .1)
-
-returns-2 : tie.Need-returns-2
-unfolding taskFits outFits inFits
-returns-2 c = simp (c .before .before .stage .given .1) (c .out-fits .ensures)
-
 returns-3 : tie.Need-returns-3
-unfolding taskFits outFits inFits
-returns-3 c = simp (c .before .before .stage2 .given .1) (c .in-fits .ensures)
+unfolding taskFits stageFits lunFits _and_
+returns-3 c = simp (c .enum-told .given .1)
 
 returns-4 : tie.Need-returns-4
-unfolding taskFits outFits inFits
+unfolding taskFits stageFits lunFits _and_
 returns-4 c =
-    simp (c .before .before .before .before .stage3 .given .1, sym (c .before .before .kind-of .ensures), sym (c .before .reply-size .ensures)) (c .in-fits2 .ensures)
+    simp (c .before .before .before .stage .given .1, c .before .if1 .left) (c .out-fits .ensures)
 
 returns-5 : tie.Need-returns-5
-unfolding taskFits outFits inFits
-returns-5 c = simp (c .enum-told2 .given .1)
+unfolding taskFits stageFits lunFits _and_
+returns-5 c =
+    simp (c .before .before .before .stage2 .given .1, c .before .if2 .left) (c .in-fits .ensures)
+
+returns-6 : tie.Need-returns-6
+unfolding taskFits stageFits lunFits _and_
+returns-6 c =
+    simp (c .before .before .before .before .stage3 .given .1, sym (c .before .before .kind-of .ensures), sym (c .before .reply-size .ensures)) (c .in-fits2 .ensures)
+
+returns-7 : tie.Need-returns-7
+unfolding taskFits stageFits lunFits _and_
+returns-7 c = simp (c .enum-told2 .given .1)
 
 pub task-fits-spec : {M : Type 1} → statement M
 task-fits-spec =
@@ -68,18 +84,21 @@ task-fits-spec =
     (tie.spec
     enum-told
     enum-known-stage
+    returns
     out-fits-requires
     enum-known-stage-2
+    returns-2
+    cast-in-fits
     mul-in-fits
     in-fits-requires
     enum-known-stage-3
     kind-of-requires
     reply-size-requires
-    cast-in-fits
+    cast-in-fits-2
     in-fits-requires-2
     enum-told-2
-    returns
-    returns-2
     returns-3
     returns-4
-    returns-5)
+    returns-5
+    returns-6
+    returns-7)

@@ -3,8 +3,8 @@ use Rattle.machine.specs.Bulk.{handedState}
 use mathlib.Core.Path.{sym}
 use Rattle.machine.specs.Record.{moved}
 use borrow.Author.Needs.{needs}
-use Rattle.bulk.proofs.inward.handed_state.Statement.{statement}
-use Rattle.bulk.proofs.inward.handed_state.Tie as tie
+use Rattle.bulk.proofs.ask.handed_state.Statement.{statement}
+use Rattle.bulk.proofs.ask.handed_state.Tie as tie
 
 sub-residue : tie.Need-sub-residue
 sub-residue c = search needs

@@ -2,8 +2,8 @@
 use Rattle.wire.specs.Slices.{zeros}
 use Rattle.machine.specs.Record.{fresh}
 use borrow.Author.Needs.{needs}
-use Rattle.collector.proofs.events.fresh.Statement.{statement}
-use Rattle.collector.proofs.events.fresh.Tie as tie
+use Rattle.collector.proofs.making.fresh.Statement.{statement}
+use Rattle.collector.proofs.making.fresh.Tie as tie
 
 new-requires : tie.Need-new-requires
 new-requires c κs = search needs

@@ -3,8 +3,8 @@ use borrow.Author.Tests.{eq-eqb, ne-eqb}
 use Rattle.wire.specs.Choice.{_and_}
 use Rattle.machine.specs.Making.{mediumServed}
 use borrow.Author.Needs.{needs}
-use Rattle.collector.proofs.events.is_served.Statement.{statement}
-use Rattle.collector.proofs.events.is_served.Tie as tie
+use Rattle.collector.proofs.making.is_served.Statement.{statement}
+use Rattle.collector.proofs.making.is_served.Tie as tie
 
 returns : tie.Need-returns
 unfolding mediumServed _and_

@@ -7,12 +7,11 @@ use borrow.Author.Tests.{leb-true, not-true, not-false}
 use Rattle.wire.specs.Choice.{if_then_else_}
 use Rattle.wire.specs.Slices.{fits}
 use Rattle.wire.proofs.Cases.{both}
-use Rattle.machine.specs.Record.{fresh}
-use Rattle.machine.specs.Fits.{mostBlocks, sizeFits}
+use Rattle.machine.specs.Units.{mostBlocks, sizeFits}
 use Rattle.machine.specs.Making.{mediumServed, make, toldMade}
 use borrow.Author.Needs.{needs}
-use Rattle.collector.proofs.events.make.Statement.{statement}
-use Rattle.collector.proofs.events.make.Tie as tie
+use Rattle.collector.proofs.making.make.Statement.{statement}
+use Rattle.collector.proofs.making.make.Tie as tie
 
 is-served-requires : tie.Need-is-served-requires
 is-served-requires c κs = search needs
@@ -49,7 +48,7 @@ fresh-requires c κs = search needs
 returns-3 : tie.Need-returns-3
 unfolding make if_then_else_
 returns-3 c =
-    simp (sym (c .before .before .before .before .is-served .ensures) ∙ not-false _ (c .before .before .before .if1 .left), sym (c .before .before .number-fits .ensures) ∙ not-false _ (c .before .if2 .left), c .fresh .ensures)
+    simp (sym (c .before .before .before .before .is-served .ensures) ∙ not-false _ (c .before .before .before .if1 .left), sym (c .before .before .number-fits .ensures) ∙ not-false _ (c .before .if2 .left)) (ap toldMade (c .fresh .ensures))
 
 pub make-spec : {M : Type 1} → statement M
 make-spec =

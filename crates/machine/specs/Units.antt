@@ -1,0 +1,79 @@
+-- The table of logical units, and the part of the medium that each has.
+use Prim.Native.Nat.{ℕ, _+_, _*_}
+use mathlib.Core.Bool.{Bool, true}
+use mathlib.Core.List.{List, [], _∷_, map}
+use lib.Dec.{leb, ltb, eqb}
+use lib.ListN.{length, take, drop, getD}
+use Rattle.wire.specs.Choice.{_and_}
+use Rattle.wire.specs.Slices.{placed}
+use Rattle.scsi.specs.Sense.{noSense}
+use Rattle.scsi.specs.declared.sense.Sense.{Sense}
+use Rattle.machine.specs.declared.record.LogicalUnit.{LogicalUnit}
+
+-- "1 to 1,048,576 blocks in a lent medium" (document 01, amended by document 02, A5), of 512 bytes each
+abbrev pub mostBlocks : ℕ
+mostBlocks = 1048576
+
+abbrev pub blockSize : ℕ
+blockSize = 512
+
+unfoldable pub sizeFits : ℕ → Bool
+sizeFits n = leb 1 n and leb n mostBlocks
+
+-- ---- the table
+
+abbrev pub Table : Type 0
+Table = List LogicalUnit
+
+abbrev pub unit : ℕ → ℕ → Sense → LogicalUnit
+unit f n s = record { first = f; blocks = n; sense = s }
+
+-- The unit of a number; beyond the table, one without blocks.
+abbrev pub unitAt : Table → ℕ → LogicalUnit
+unitAt us n = getD us n (unit 0 0 noSense)
+
+abbrev pub inTable : ℕ → Table → Bool
+inTable n us = ltb n (length us)
+
+unfoldable pub withSense : LogicalUnit → Sense → LogicalUnit
+withSense u s = unit (u .first) (u .blocks) s
+
+-- "Dropping the command" leaves "sense 00/00/00": of every unit.
+abbrev pub unsensed : LogicalUnit → LogicalUnit
+unsensed u = unit (u .first) (u .blocks) noSense
+
+unfoldable pub cleared : Table → Table
+cleared us = map unsensed us
+
+unfoldable pub every : (LogicalUnit → Bool) → Table → Bool
+every test [] = true
+every test (u ∷ us) = test u and every test us
+
+-- ---- the parts of the medium
+
+abbrev pub mostUnits : ℕ
+mostUnits = 4
+
+unfoldable pub total : Table → ℕ
+total [] = 0
+total (u ∷ us) = u .blocks + total us
+
+-- Each part begins where the one before it ends, and is of a size that is served.
+unfoldable pub follow : ℕ → Table → Bool
+follow n [] = true
+follow n (u ∷ us) = eqb (u .first) n and sizeFits (u .blocks) and follow (n + u .blocks) us
+
+-- A table of 1 to 4 units, whose parts follow on from block 0.
+unfoldable pub laidOut : Table → Bool
+laidOut us = leb 1 (length us) and leb (length us) mostUnits and follow 0 us
+
+-- A medium of the table's size.
+unfoldable pub mediumFits : Table → List ℕ → Bool
+mediumFits us m = eqb (length m) (blockSize * total us)
+
+-- The bytes that are a unit's own, and the medium with others there.
+unfoldable pub partOf : LogicalUnit → List ℕ → List ℕ
+partOf u m = take (blockSize * u .blocks) (drop (blockSize * u .first) m)
+
+unfoldable pub withPart : LogicalUnit → List ℕ → List ℕ → List ℕ
+withPart u m s = placed m (blockSize * u .first) s
