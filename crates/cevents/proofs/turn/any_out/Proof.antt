@@ -32,11 +32,11 @@ unit-from-requires c κs = search needs
 out-parts-requires : tie.Need-out-parts-requires
 out-parts-requires c κs = search needs
 
-told-requires : tie.Need-told-requires
-told-requires c κs = search needs
-
 flat-of-requires : tie.Need-flat-of-requires
 flat-of-requires c κs = search needs
+
+told-requires : tie.Need-told-requires
+told-requires c κs = search needs
 
 same-length : tie.Need-same-length
 same-length c = search needs
@@ -44,7 +44,7 @@ same-length c = search needs
 returns-2 : tie.Need-returns-2
 returns-2 c =
     let a = c .before .before .before .before .before .before .before .before .before .before .before .before .before .before .before .before .args in
-    decoded (a .given) (a .flat) _ (machine.bulkOut (a .packet .now)) (a .part .now) (a .medium .now) _ _ _ _ (c .before .before .before .before .before .before .out-parts .result) _ _ _ (sym (c .before .before .before .before .before .before .before .before .before .before .before .before .before .decodes .ensures) ∙ not-false _ (c .before .before .before .before .before .before .before .before .before .before .before .before .if1 .left)) (c .before .before .before .before .before .before .before .before .before .before .before .identity-from .ensures) (c .before .before .before .before .before .before .before .before .before .before .state-from .ensures) (c .before .before .before .before .before .before .before .before .before .unit-from .ensures) (c .before .before .before .before .before .before .out-parts .ensures) (c .before .told .ensures) (c .flat-of .ensures)
+    decoded (a .given) (a .flat) _ (machine.bulkOut (a .packet .now)) (a .part .now) (a .medium .now) _ _ _ _ (c .before .before .before .before .before .before .out-parts .result) _ _ _ (sym (c .before .before .before .before .before .before .before .before .before .before .before .before .before .decodes .ensures) ∙ not-false _ (c .before .before .before .before .before .before .before .before .before .before .before .before .if1 .left)) (c .before .before .before .before .before .before .before .before .before .before .before .identity-from .ensures) (c .before .before .before .before .before .before .before .before .before .before .state-from .ensures) (c .before .before .before .before .before .before .before .before .before .unit-from .ensures) (c .before .before .before .before .before .before .out-parts .ensures) (c .told .ensures) (c .before .flat-of .ensures)
 
 pub any-out-spec : {M : Type 1} → statement M
 any-out-spec =
@@ -57,7 +57,7 @@ any-out-spec =
     state-from-requires
     unit-from-requires
     out-parts-requires
-    told-requires
     flat-of-requires
+    told-requires
     same-length
     returns-2)
