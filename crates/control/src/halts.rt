@@ -1,9 +1,11 @@
 // Clear and Set Feature: the halts of the bulk pipes (USB 2.0, 9.4.1 and 9.4.9).
 ghost use mathlib.Core.Path.{_≡_};
+ghost use mathlib.Core.Bool.{true};
 ghost use mathlib.Core.List.{List};
 ghost use Prim.Native.Nat.{ℕ};
+ghost use Rattle.wire.specs.Choice.{if_then_else_};
 ghost use Rattle.machine.specs.World.{World, out};
-ghost use Rattle.machine.specs.Control.{haltIn, haltOut, needsConfigured, clearHalt, setHalt};
+ghost use Rattle.machine.specs.Control.{needsConfigured, clearHalt, setHalt};
 ghost use Rattle.state.specs.One.{ofOne};
 use machine::answer::Answer;
 use machine::record::LogicalUnit;
@@ -32,52 +34,36 @@ fn acked(next: State, state: State, unit: LogicalUnit) -> Moved
 }
 
 // A locked device keeps both halts, whatever is asked.
-fn halt_in(on: bool, state: State) -> State
-    ensures { λ r. ⌜ r ≡ haltIn on state ⌝ }
+fn halt(on: bool, locked: bool) -> bool
+    ensures { λ r. ⌜ r ≡ if locked then true else on ⌝ }
+{
+    if locked { true } else { on }
+}
+
+// Clear Feature is `on = false`. The control endpoint never halts: clearing has nothing to do, setting is refused.
+pub(crate) fn set_feature(on: bool, endpoint: Endpoint, state: State, unit: LogicalUnit) -> Moved
+    ensures { λ r. ⌜ ((w : World) (b : List ℕ) → out (r .answer) (ofOne w (r .state) (r .unit)) b ≡ if on then setHalt endpoint (ofOne w state unit) b else clearHalt endpoint (ofOne w state unit) b) ⌝ }
 {
     let link = state.link;
     let locked = link.locked;
-    if locked {
-        return with_halts(state, true, link.haltout, locked);
-    }
-    with_halts(state, on, link.haltout, locked)
-}
-
-fn halt_out(on: bool, state: State) -> State
-    ensures { λ r. ⌜ r ≡ haltOut on state ⌝ }
-{
-    let link = state.link;
-    let locked = link.locked;
-    if locked {
-        return with_halts(state, link.haltin, true, locked);
-    }
-    with_halts(state, link.haltin, on, locked)
-}
-
-pub(crate) fn clear_halt(endpoint: Endpoint, state: State, unit: LogicalUnit) -> Moved
-    ensures { λ r. ⌜ ((w : World) (b : List ℕ) → out (r .answer) (ofOne w (r .state) (r .unit)) b ≡ clearHalt endpoint (ofOne w state unit) b) ⌝ }
-{
+    let next = halt(on, locked);
     match endpoint {
-        Endpoint::Control => Moved {
-            answer: Answer::Ack,
-            state,
-            unit,
-        },
-        Endpoint::BulkIn => acked(halt_in(false, state), state, unit),
-        Endpoint::BulkOut => acked(halt_out(false, state), state, unit),
-    }
-}
-
-pub(crate) fn set_halt(endpoint: Endpoint, state: State, unit: LogicalUnit) -> Moved
-    ensures { λ r. ⌜ ((w : World) (b : List ℕ) → out (r .answer) (ofOne w (r .state) (r .unit)) b ≡ setHalt endpoint (ofOne w state unit) b) ⌝ }
-{
-    match endpoint {
-        Endpoint::Control => Moved {
-            answer: Answer::Stall,
-            state,
-            unit,
-        },
-        Endpoint::BulkIn => acked(halt_in(true, state), state, unit),
-        Endpoint::BulkOut => acked(halt_out(true, state), state, unit),
+        Endpoint::Control => {
+            if on {
+                Moved {
+                    answer: Answer::Stall,
+                    state,
+                    unit,
+                }
+            } else {
+                Moved {
+                    answer: Answer::Ack,
+                    state,
+                    unit,
+                }
+            }
+        }
+        Endpoint::BulkIn => acked(with_halts(state, next, link.haltout, locked), state, unit),
+        Endpoint::BulkOut => acked(with_halts(state, link.haltin, next, locked), state, unit),
     }
 }

@@ -14,8 +14,7 @@ use crate::data::get_descriptor;
 use crate::data::get_max_lun;
 use crate::data::send_configured;
 use crate::data::send_flag;
-use crate::halts::clear_halt;
-use crate::halts::set_halt;
+use crate::halts::set_feature;
 use machine::answer::Answer;
 use machine::record::LogicalUnit;
 use machine::record::State;
@@ -105,8 +104,8 @@ pub(crate) fn perform(
         Request::GetDeviceStatus => send_flag(true, state, unit, buffer),
         Request::GetInterfaceStatus => send_configured(false, state, unit, buffer),
         Request::GetEndpointStatus { endpoint } => endpoint_status(endpoint, state, unit, buffer),
-        Request::ClearHalt { endpoint } => clear_halt(endpoint, state, unit),
-        Request::SetHalt { endpoint } => set_halt(endpoint, state, unit),
+        Request::ClearHalt { endpoint } => set_feature(false, endpoint, state, unit),
+        Request::SetHalt { endpoint } => set_feature(true, endpoint, state, unit),
         Request::MassStorageReset => mass_storage_reset(state, unit, part),
         Request::GetMaxLun => get_max_lun(state, unit, buffer),
         Request::GetDescriptor { which, wlength } => {

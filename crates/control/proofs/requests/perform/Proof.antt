@@ -1,5 +1,6 @@
 -- `perform` meets its contract. Assumes nothing.
 use mathlib.Core.List.{[]}
+use Rattle.wire.specs.Choice.{if_then_else_}
 use Rattle.machine.specs.Record.{device, noDevice}
 use Rattle.machine.specs.World.{world}
 use Rattle.machine.specs.Control.{perform}
@@ -46,14 +47,14 @@ endpoint-status-requires c κs = search needs
 enum-known-request-4 : tie.Need-enum-known-request-4
 enum-known-request-4 c = search needs
 
-clear-halt-requires : tie.Need-clear-halt-requires
-clear-halt-requires c κs = search needs
+set-feature-requires : tie.Need-set-feature-requires
+set-feature-requires c κs = search needs
 
 enum-known-request-5 : tie.Need-enum-known-request-5
 enum-known-request-5 c = search needs
 
-set-halt-requires : tie.Need-set-halt-requires
-set-halt-requires c κs = search needs
+set-feature-requires-2 : tie.Need-set-feature-requires-2
+set-feature-requires-2 c κs = search needs
 
 enum-told-4 : tie.Need-enum-told-4
 enum-told-4 c = search needs
@@ -117,12 +118,12 @@ returns-6 c =
     λ m. simp (c .before .before .before .before .before .request3 .given .1) (c .before .before .endpoint-status .ensures (world (device _ (noDevice .state) _) [] m))
 
 returns-7 : tie.Need-returns-7
-unfolding perform
-returns-7 c = λ m. simp (c .before .before .request4 .given .1) (c .clear-halt .ensures (world (device _ (noDevice .state) _) [] m) _)
+unfolding perform if_then_else_
+returns-7 c = λ m. simp (c .before .before .request4 .given .1) (c .set-feature .ensures (world (device _ (noDevice .state) _) [] m) _)
 
 returns-8 : tie.Need-returns-8
-unfolding perform
-returns-8 c = λ m. simp (c .before .before .request5 .given .1) (c .set-halt .ensures (world (device _ (noDevice .state) _) [] m) _)
+unfolding perform if_then_else_
+returns-8 c = λ m. simp (c .before .before .request5 .given .1) (c .set-feature2 .ensures (world (device _ (noDevice .state) _) [] m) _)
 
 returns-9 : tie.Need-returns-9
 unfolding perform
@@ -165,9 +166,9 @@ perform-spec =
     enum-known-request-3
     endpoint-status-requires
     enum-known-request-4
-    clear-halt-requires
+    set-feature-requires
     enum-known-request-5
-    set-halt-requires
+    set-feature-requires-2
     enum-told-4
     mass-storage-reset-requires
     enum-told-5
