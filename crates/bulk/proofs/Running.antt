@@ -11,7 +11,9 @@ use borrow.Author.Tests.{leb-true, ltb-true, eqb-true}
 use Rattle.wire.specs.Choice.{_and_}
 use Rattle.wire.specs.Slices.{placed}
 use Rattle.wire.proofs.Cases.{both, by-if}
+use borrow.Rule.Slice.PartMut.{putMid}
 use Rattle.wire.proofs.Lists.{placed-whole}
+use Rattle.wire.proofs.Parts.{part-back}
 use Rattle.scsi.specs.Reply.{kindOf, replySize}
 use Rattle.scsi.specs.declared.reply.Reply as replies
 use Rattle.scsi.proofs.Replies.{sizes, reply-short}
@@ -138,3 +140,11 @@ delivers w b s x t n e f l =
 
 pub length-part : (place n : ℕ) (s : List ℕ) → place + n ≤ length s → length (take n (drop place s)) ≡ n
 length-part place n s h = let d = length-drop place s in length-take-le n (drop place s) (omega arith)
+
+-- A whole block put into its place, as a part of the medium, is put into the medium.
+pub whole-block : (a n : ℕ) (m p y : List ℕ) → n ≡ 512 → a + 512 ≤ length m → length p ≡ 512 → y ≡ placed (take n (drop a m)) 0 p → putMid a n m y ≡ placed m a p
+whole-block a n m p y e h l q =
+    let t = length-part a n m (omega arith) in
+    let z : y ≡ p = q ∙ placed-whole (take n (drop a m)) p (omega arith) in
+    let k : length y ≡ n = ap length z ∙ l ∙ sym e in
+    part-back a n m y (omega arith) k ∙ ap (placed m a) z

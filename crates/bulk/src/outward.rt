@@ -139,7 +139,10 @@ fn on_data(
             unit,
         };
     }
-    put(medium, 512 * (block as usize), part);
+    // The block's place is lent, not the medium: the copy then has no bound to test.
+    let start = 512 * (block as usize);
+    let end = start + 512;
+    put(&mut medium[start..end], 0, part);
     wipe(part);
     Moved {
         answer: Answer::Ack,

@@ -114,8 +114,8 @@ pub(crate) fn gathers(given: Given, flat: Flat, medium: usize, packet: usize) ->
     if left <= 1 {
         return false;
     }
-    if !out_fits(blocks, place, left, value, announced, residue) {
+    if !is_free(given, flat, medium) {
         return false;
     }
-    is_free(given, flat, medium)
+    out_fits(blocks, place, left, value, announced, residue)
 }

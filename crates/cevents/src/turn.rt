@@ -193,7 +193,7 @@ fn any_out(given: Given, flat: Flat, part: &mut [u8; 512], medium: &mut [u8], pa
     let answer = moved.answer;
     let state = moved.state;
     let unit = moved.unit;
-    // The answer last: the other way round the compiler gives a data packet three instructions more.
+    // The answer last: the other way round the compiler gives a data packet some instructions more.
     let flat = flat_of(state, unit);
     let told = told(answer);
     Turn { told, flat }

@@ -15,25 +15,25 @@ returns-2 c = never
 returns-3 : tie.Need-returns-3
 returns-3 c = never
 
-out-fits-requires : tie.Need-out-fits-requires
-out-fits-requires c κs = search needs
+is-free-requires : tie.Need-is-free-requires
+is-free-requires c κs = search needs
 
 returns-4 : tie.Need-returns-4
 returns-4 c = never
 
-is-free-requires : tie.Need-is-free-requires
-is-free-requires c κs = search needs
+out-fits-requires : tie.Need-out-fits-requires
+out-fits-requires c κs = search needs
 
 returns-5 : tie.Need-returns-5
 returns-5 c =
     λ e.
     record {
-      free = c .is-free .ensures e;
+      free = c .before .before .is-free .ensures (not-false _ (c .before .if4 .left));
       stage = c .before .before .before .before .before .if1 .left;
       more = c .before .before .before .if3 .left;
-      running = sym (c .before .before .out-fits .ensures) ∙ not-false _ (c .before .if4 .left);
+      running = sym (c .out-fits .ensures) ∙ e;
       full = c .before .before .before .before .if2 .left;
     }
 
 pub gathers-spec : {M : Type 1} → statement M
-gathers-spec = tie.close (tie.spec returns returns-2 returns-3 out-fits-requires returns-4 is-free-requires returns-5)
+gathers-spec = tie.close (tie.spec returns returns-2 returns-3 is-free-requires returns-4 out-fits-requires returns-5)
