@@ -29,7 +29,7 @@ inState w s = world (withState (w .dev) s) (w .units) (w .medium)
 unfoldable pub dropped : World → ℕ → Bool → Bool → Bool → World
 dropped w a c hi ho = world (device (w .dev .identity) (droppedState a c hi ho) (zeros blockSize)) (cleared (w .units)) (w .medium)
 
--- All that an event leaves: its answer, and the buffer that it lent; one that lends none leaves none.
+-- All that an event leaves: its answer, the world, and the buffer that it lent, empty where it lends none.
 pub record Out : Type 0 where
   pub answer : Answer
   pub world : World

@@ -9,7 +9,7 @@ use machine::checks::Verdict;
 use machine::record::LogicalUnit;
 use machine::record::State;
 
-// The state and the unit that an event leaves.
+// What an event answers, and the state and the unit that it leaves.
 pub struct Moved {
     pub answer: Answer,
     pub state: State,
