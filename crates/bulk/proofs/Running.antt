@@ -5,15 +5,15 @@ use mathlib.Core.Bool.{Bool, true}
 use mathlib.Core.List.{List, [], _∷_}
 use native.Mathlib.Omega.{arith}
 use lib.Dec.{eqb}
-use lib.ListN.{length, take, drop, length-drop}
-use lib.Seq.{take-all, length-take-le}
+use lib.ListN.{length, take, drop}
+use lib.Seq.{take-all}
 use borrow.Author.Tests.{leb-true, ltb-true, eqb-true}
 use Rattle.wire.specs.Choice.{_and_}
 use Rattle.wire.specs.Slices.{placed}
 use Rattle.wire.proofs.Cases.{both, by-if}
 use borrow.Rule.Slice.PartMut.{putMid}
 use Rattle.wire.proofs.Lists.{placed-whole}
-use Rattle.wire.proofs.Parts.{part-back}
+use Rattle.wire.proofs.Parts.{length-part, part-back}
 use Rattle.scsi.specs.Reply.{kindOf, replySize}
 use Rattle.scsi.specs.declared.reply.Reply as replies
 use Rattle.scsi.proofs.Replies.{sizes, reply-short}
@@ -137,9 +137,6 @@ unfolding packetIn deliver
 delivers w b s x t n e f l =
     ap (λ (k : ℕ). out (Data k) (inState w t) (placed b 0 s)) (sym l)
     ∙ sym (ap (λ (a : Asked). deliver a w b) e ∙ ap (λ (y : List ℕ). sends y (inState w t) b) f)
-
-pub length-part : (place n : ℕ) (s : List ℕ) → place + n ≤ length s → length (take n (drop place s)) ≡ n
-length-part place n s h = let d = length-drop place s in length-take-le n (drop place s) (omega arith)
 
 -- A whole block put into its place, as a part of the medium, is put into the medium.
 pub whole-block : (a n : ℕ) (m p y : List ℕ) → n ≡ 512 → a + 512 ≤ length m → length p ≡ 512 → y ≡ placed (take n (drop a m)) 0 p → putMid a n m y ≡ placed m a p

@@ -1,5 +1,5 @@
-// A packet on bulk-out and an ask on bulk-in, over the parts of a record: identity, state and unit by value, the block being
-// gathered lent. Each is one equation with the specification machine, for every input.
+// A packet on bulk-out and an ask on bulk-in, over the parts of a collector: identity, state and unit by value, the block
+// being gathered lent. Each is one equation with the specification machine, for every input.
 ghost use mathlib.Core.Path.{_≡_};
 ghost use mathlib.Core.List.{List, [], _∷_};
 ghost use Prim.Native.Nat.{ℕ};

@@ -32,7 +32,8 @@ use Rattle.machine.specs.Machine.{Event, bulkIn, bulkOut, checks, fitting, effe
 use Rattle.machine.proofs.Judge.{passes}
 use Rattle.machine.proofs.Fit.{fits-of}
 use Rattle.bulk.specs.Parts.{Sound}
-use Rattle.bulk.proofs.Running.{in-unit, medium-bytes, delivers, length-part}
+use Rattle.wire.proofs.Parts.{length-part}
+use Rattle.bulk.proofs.Running.{in-unit, medium-bytes, delivers}
 use Rattle.crecord.specs.declared.record.Given.{Given}
 use Rattle.crecord.specs.declared.record.Flat as flats
 use Rattle.crecord.specs.Flat.{noNumbers, noValue, formOf, flag, decodes, stateFrom, unitFrom, identityFrom, numbersOf, worth, flagsOf, flatWith, flatOf, answer, rec}

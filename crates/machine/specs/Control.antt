@@ -63,7 +63,7 @@ perform (ClearHalt e) w b = clearHalt e w b
 perform (SetHalt e) w b = setHalt e w b
 perform MassStorageReset w b =
     needsConfigured w b (out Ack (dropped w (w .dev .state .address) true (w .dev .state .link .haltin) (w .dev .state .link .haltout)) b)
--- the highest unit of the table (BOT 3.2)
+-- "Get Max LUN answers the highest unit" (document 02, A7; BOT 3.2)
 perform GetMaxLun w b = needsConfigured w b (sends ((length (w .units) - 1) ∷ []) w b)
 perform (GetDescriptor which n) w b = sends (take n (descriptorData which (w .dev .identity))) w b
 perform request.Stall w b = out Stall w b

@@ -38,7 +38,7 @@ inTable n us = ltb n (length us)
 unfoldable pub withSense : LogicalUnit → Sense → LogicalUnit
 withSense u s = unit (u .first) (u .blocks) s
 
--- "Dropping the command" leaves "sense 00/00/00": of every unit.
+-- "All command drops clear all senses." (document 02, A7)
 abbrev pub unsensed : LogicalUnit → LogicalUnit
 unsensed u = unit (u .first) (u .blocks) noSense
 
@@ -51,6 +51,7 @@ every test (u ∷ us) = test u and every test us
 
 -- ---- the parts of the medium
 
+-- "It has 1 to 4 logical units" (document 02, A7)
 abbrev pub mostUnits : ℕ
 mostUnits = 4
 
@@ -58,16 +59,16 @@ unfoldable pub total : Table → ℕ
 total [] = 0
 total (u ∷ us) = u .blocks + total us
 
--- Each part begins where the one before it ends, and is of a size that is served.
+-- "parts .. following on from block 0", "the limit holds for each": each begins where the one before it ends.
 unfoldable pub follow : ℕ → Table → Bool
 follow n [] = true
 follow n (u ∷ us) = eqb (u .first) n and sizeFits (u .blocks) and follow (n + u .blocks) us
 
--- A table of 1 to 4 units, whose parts follow on from block 0.
+-- "A table not of 1 to 4 units, a unit's size outside the limit, or parts not following on from block 0, give 10"
 unfoldable pub laidOut : Table → Bool
 laidOut us = leb 1 (length us) and leb (length us) mostUnits and follow 0 us
 
--- A medium of the table's size.
+-- "number 11 asks their sum"
 unfoldable pub mediumFits : Table → List ℕ → Bool
 mediumFits us m = eqb (length m) (blockSize * total us)
 

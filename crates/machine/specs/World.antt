@@ -54,7 +54,7 @@ pub record UnitOut : Type 0 where
 abbrev pub unitOut : Answer → Device → LogicalUnit → List ℕ → UnitOut
 unitOut a d u m = record { answer = a; dev = d; unit = u; medium = m }
 
--- The other units and their parts stay. No buffer is lent.
+-- "Every block outside the addressed unit keeps its bytes." (document 02, A7) No buffer is lent.
 unfoldable pub inUnit : World → ℕ → (Device → LogicalUnit → List ℕ → UnitOut) → Out
 inUnit w n f =
     let u = unitAt (w .units) n in

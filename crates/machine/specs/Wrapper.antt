@@ -14,7 +14,8 @@ use Rattle.machine.specs.declared.wrapper.Wrapper.{Wrapper}
 use Rattle.machine.specs.declared.wrapper.Wrapper.the-variants.{Broken, Good}
 use Rattle.machine.specs.Units.{Table, unitAt}
 
--- "To be accepted the unit must be 0 and the block at least as long as its operation code needs": with a table of so many units, one of them.
+-- "To be accepted the unit must be 0 and the block at least as long as its operation code needs"; with a table of so many units, one of them: "a wrapper for a
+-- unit beyond it locks" (document 02, A7).
 unfoldable pub accepted : ℕ → List ℕ → Bool
 accepted count p =
     readable p

@@ -1,4 +1,4 @@
--- Where the code stands beside the specification machine, which has a table of units.
+-- A collector of one unit, as the code serves it: what the inner functions' contracts cite.
 use mathlib.Core.List.{[], _∷_}
 use Rattle.machine.specs.declared.record.LogicalUnit.{LogicalUnit}
 use Rattle.machine.specs.declared.record.State.{State}

@@ -10,7 +10,7 @@ use Rattle.wire.specs.Slices.{placed}
 use Rattle.wire.proofs.Lists.{placed-yes, length-placed}
 
 -- the part of n bytes from a on
-length-part : (a n : ℕ) (m : List ℕ) → a + n ≤ length m → length (take n (drop a m)) ≡ n
+pub length-part : (a n : ℕ) (m : List ℕ) → a + n ≤ length m → length (take n (drop a m)) ≡ n
 length-part a n m h = let d = length-drop a m in length-take-le n (drop a m) (omega arith)
 
 -- a part lent and given back at other bytes, as the borrow checker states it, is the whole with those put there

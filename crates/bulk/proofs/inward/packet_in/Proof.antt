@@ -7,7 +7,8 @@ use Rattle.scsi.specs.Reply.{replyPacket}
 use Rattle.scsi.proofs.Replies.{reply-short}
 use Rattle.bot.proofs.RoundTrip.{length-csw}
 use Rattle.machine.specs.Bulk.{bytesOf, deliver, packetIn}
-use Rattle.bulk.proofs.Running.{askable, found, medium-bytes, delivers, length-part}
+use Rattle.wire.proofs.Parts.{length-part}
+use Rattle.bulk.proofs.Running.{askable, found, medium-bytes, delivers}
 use borrow.Author.Needs.{needs}
 use Rattle.bulk.proofs.inward.packet_in.Statement.{statement}
 use Rattle.bulk.proofs.inward.packet_in.Tie as tie
