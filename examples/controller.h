@@ -41,4 +41,7 @@ void controller_silence(controller_endpoint endpoint);
 /* Sets the address that the hardware answers to; it takes effect after the status stage. */
 void controller_address(uint8_t address);
 
+/* Where the write switch now is: 0 open, 1 closed. Somebody may move it at any time; no event tells of it. */
+int controller_write_switch(void);
+
 #endif

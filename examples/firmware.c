@@ -1,5 +1,6 @@
 /*
- * The main loop of a drive: poll the controller for an event, call the device, hand its answer to the hardware.
+ * The main loop of a drive: poll the controller for an event, see where the write switch is, call the device, hand its
+ * answer to the hardware.
  */
 #include "collector.h"
 #include "controller.h"
@@ -64,6 +65,14 @@ static bool serve(controller_event event)
     }
 }
 
+/* Tells the device of the write switch where its record says otherwise: after making, which opens it, and once it was moved. */
+static bool follow_switch(void)
+{
+    const uint8_t position = controller_write_switch() ? COLLECTOR_SWITCH_CLOSED : COLLECTOR_SWITCH_OPEN;
+
+    return position == record.write_switch || collector_set_switch(&record, position).number == COLLECTOR_ACK;
+}
+
 int main(void)
 {
     const uint64_t number = 42;
@@ -73,7 +82,7 @@ int main(void)
     if (collector_make(&record, number, vendor, product, release, medium, sizeof medium).number != COLLECTOR_ACK)
         return 1;
     while ((event = controller_poll()) != CONTROLLER_OFF)
-        if (!serve(event))
+        if (!follow_switch() || !serve(event))
             return 1;
     return 0;
 }

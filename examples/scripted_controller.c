@@ -11,10 +11,13 @@
 
 typedef enum outcome { NOTHING, DATA, ACK, NAK, STALL, SILENCE } outcome;
 
+/* A line of the script that is no event: somebody moves the write switch. An event follows it. */
+enum { SWITCH = CONTROLLER_OFF + 1 };
+
 typedef struct step {
     const char *name;
-    controller_event event;
-    const char *packet;     /* what the host sends */
+    int event;              /* a controller_event, or SWITCH */
+    const char *packet;     /* what the host sends; of SWITCH the position */
     size_t length;
     outcome outcome;        /* what the device has to do */
     const char *data;
@@ -34,6 +37,9 @@ typedef struct step {
 #define NAKS NAK, NONE
 #define STALLS STALL, NONE
 #define IS_SILENT SILENCE, NONE
+#define MOVED(position) SWITCH, BYTES(position), NOTHING, NONE
+#define OPENED MOVED("\x00")
+#define CLOSED MOVED("\x01")
 
 /* A command wrapper: tag (its first byte), announced length, direction, block length, command block of 16 bytes. */
 #define CBW(tag, announced, direction, block) OUT("USBC" tag "\x00\x00\x00" announced direction "\x00" block)
@@ -48,6 +54,7 @@ typedef struct step {
 #define ROW(digit) digit "23456789abcdef0123456789abcdef0123456789abcdef0123456789abcdef!"
 
 static const step script[] = {
+    {"switch closed before the cable was plugged in", CLOSED},
     {"bus reset", RESET},
     {"Get Descriptor, device", SETUP("\x80\x06\x00\x01\x00\x00\x40\x00"),
      SENDS("\x12\x01\x00\x02\x00\x00\x00\x40\x09\x12\x01\x00\x00\x01\x01\x02\x03\x01")},
@@ -75,10 +82,27 @@ static const step script[] = {
     {"Read Capacity's data", ASK, SENDS("\x00\x00\x00\x3F\x00\x00\x02\x00")},
     {"Read Capacity's status", ASK, CSW("\x02", "\x00\x00\x00\x00", "\x00")},
 
-    {"Write block 5",
+    {"Write block 5, the switch closed",
      CBW("\x03", "\x00\x02\x00\x00", HOST_OUT, "\x0A" "\x2A\x00\x00\x00\x00\x05\x00\x00\x01\x00" ZEROS6), ACKS},
+    {"stalled data", OUT(ROW("0")), STALLS},
+    {"failed status, residue 512", ASK, CSW("\x03", "\x00\x02\x00\x00", "\x01")},
+    {"Clear Feature, bulk-out", SETUP("\x02\x01\x00\x00\x02\x00\x00\x00"), ACKS},
+    {"Request Sense", CBW("\x04", "\x12\x00\x00\x00", HOST_IN, "\x06" "\x03\x00\x00\x00\x12\x00" ZEROS10), ACKS},
+    {"sense 07/27/00", ASK, SENDS("\x70\x00\x07\x00\x00\x00\x00\x0A\x00\x00\x00\x00\x27\x00\x00\x00\x00\x00")},
+    {"Request Sense's status", ASK, CSW("\x04", "\x00\x00\x00\x00", "\x00")},
+    {"Mode Sense", CBW("\x05", "\x04\x00\x00\x00", HOST_IN, "\x06" "\x1A\x00\x3F\x00\x04\x00" ZEROS10), ACKS},
+    {"Mode Sense's data, write-protected", ASK, SENDS("\x03\x00\x80\x00")},
+    {"Mode Sense's status", ASK, CSW("\x05", "\x00\x00\x00\x00", "\x00")},
+
+    {"switch opened", OPENED},
+    {"Mode Sense again", CBW("\x06", "\x04\x00\x00\x00", HOST_IN, "\x06" "\x1A\x00\x3F\x00\x04\x00" ZEROS10), ACKS},
+    {"Mode Sense's data, not write-protected", ASK, SENDS("\x03\x00\x00\x00")},
+    {"Mode Sense's status", ASK, CSW("\x06", "\x00\x00\x00\x00", "\x00")},
+    {"Write block 5",
+     CBW("\x07", "\x00\x02\x00\x00", HOST_OUT, "\x0A" "\x2A\x00\x00\x00\x00\x05\x00\x00\x01\x00" ZEROS6), ACKS},
     {"Write's packet 1", OUT(ROW("1")), ACKS},
     {"Write's packet 2", OUT(ROW("2")), ACKS},
+    {"switch closed within the data", CLOSED},
     {"ask within the data", ASK, NAKS},
     {"Write's packet 3", OUT(ROW("3")), ACKS},
     {"Write's packet 4", OUT(ROW("4")), ACKS},
@@ -87,10 +111,13 @@ static const step script[] = {
     {"Write's packet 7", OUT(ROW("7")), ACKS},
     {"Write's packet 8", OUT(ROW("8")), ACKS},
     {"packet where status is due", OUT(ROW("9")), NAKS},
-    {"Write's status", ASK, CSW("\x03", "\x00\x00\x00\x00", "\x00")},
+    {"Write's status", ASK, CSW("\x07", "\x00\x00\x00\x00", "\x00")},
+    {"Write of no block, the switch closed",
+     CBW("\x08", "\x00\x00\x00\x00", HOST_OUT, "\x0A" "\x2A\x00\x00\x00\x00\x05\x00\x00\x00\x00" ZEROS6), ACKS},
+    {"failed status", ASK, CSW("\x08", "\x00\x00\x00\x00", "\x01")},
 
     {"Read block 5",
-     CBW("\x04", "\x00\x02\x00\x00", HOST_IN, "\x0A" "\x28\x00\x00\x00\x00\x05\x00\x00\x01\x00" ZEROS6), ACKS},
+     CBW("\x09", "\x00\x02\x00\x00", HOST_IN, "\x0A" "\x28\x00\x00\x00\x00\x05\x00\x00\x01\x00" ZEROS6), ACKS},
     {"Read's packet 1", ASK, SENDS(ROW("1"))},
     {"Read's packet 2", ASK, SENDS(ROW("2"))},
     {"Read's packet 3", ASK, SENDS(ROW("3"))},
@@ -99,21 +126,21 @@ static const step script[] = {
     {"Read's packet 6", ASK, SENDS(ROW("6"))},
     {"Read's packet 7", ASK, SENDS(ROW("7"))},
     {"Read's packet 8", ASK, SENDS(ROW("8"))},
-    {"Read's status", ASK, CSW("\x04", "\x00\x00\x00\x00", "\x00")},
+    {"Read's status", ASK, CSW("\x09", "\x00\x00\x00\x00", "\x00")},
 
     {"Read block 64, past the end",
-     CBW("\x05", "\x00\x02\x00\x00", HOST_IN, "\x0A" "\x28\x00\x00\x00\x00\x40\x00\x00\x01\x00" ZEROS6), ACKS},
+     CBW("\x0A", "\x00\x02\x00\x00", HOST_IN, "\x0A" "\x28\x00\x00\x00\x00\x40\x00\x00\x01\x00" ZEROS6), ACKS},
     {"stalled data", ASK, STALLS},
     {"Get Status, bulk-in halted", SETUP("\x82\x00\x00\x00\x81\x00\x02\x00"), SENDS("\x01\x00")},
     {"Clear Feature, bulk-in", SETUP("\x02\x01\x00\x00\x81\x00\x00\x00"), ACKS},
-    {"failed status, residue 512", ASK, CSW("\x05", "\x00\x02\x00\x00", "\x01")},
-    {"Request Sense", CBW("\x06", "\x12\x00\x00\x00", HOST_IN, "\x06" "\x03\x00\x00\x00\x12\x00" ZEROS10), ACKS},
+    {"failed status, residue 512", ASK, CSW("\x0A", "\x00\x02\x00\x00", "\x01")},
+    {"Request Sense", CBW("\x0B", "\x12\x00\x00\x00", HOST_IN, "\x06" "\x03\x00\x00\x00\x12\x00" ZEROS10), ACKS},
     {"sense 05/21/00, block 64", ASK,
      SENDS("\xF0\x00\x05\x00\x00\x00\x40\x0A\x00\x00\x00\x00\x21\x00\x00\x00\x00\x00")},
-    {"Request Sense's status", ASK, CSW("\x06", "\x00\x00\x00\x00", "\x00")},
+    {"Request Sense's status", ASK, CSW("\x0B", "\x00\x00\x00\x00", "\x00")},
 
     {"Read block 5 again",
-     CBW("\x07", "\x00\x02\x00\x00", HOST_IN, "\x0A" "\x28\x00\x00\x00\x00\x05\x00\x00\x01\x00" ZEROS6), ACKS},
+     CBW("\x0C", "\x00\x02\x00\x00", HOST_IN, "\x0A" "\x28\x00\x00\x00\x00\x05\x00\x00\x01\x00" ZEROS6), ACKS},
     {"bus reset within the data", RESET},
     {"Get Configuration", SETUP("\x80\x08\x00\x00\x00\x00\x01\x00"), SENDS("\x00")},
     {"ask after the reset", ASK, IS_SILENT},
@@ -124,6 +151,7 @@ enum { STEPS = sizeof script / sizeof script[0] };
 static size_t next;                 /* the step before it is under way */
 static bool answered = true;
 static uint8_t address, expected_address;
+static int write_switch;
 
 static void fail(const char *what)
 {
@@ -131,7 +159,7 @@ static void fail(const char *what)
     exit(1);
 }
 
-static controller_endpoint endpoint_of(controller_event event)
+static controller_endpoint endpoint_of(int event)
 {
     switch (event) {
     case CONTROLLER_OUT:
@@ -163,8 +191,10 @@ controller_event controller_poll(void)
         printf("firmware: %d steps, each answered as document 01 says\n", (int)STEPS);
         return CONTROLLER_OFF;
     }
+    for (; script[next].event == SWITCH; next++)
+        write_switch = script[next].packet[0];
     answered = script[next].outcome == NOTHING;
-    return script[next++].event;
+    return (controller_event)script[next++].event;
 }
 
 size_t controller_read(controller_endpoint endpoint, uint8_t *packet)
@@ -221,4 +251,9 @@ void controller_silence(controller_endpoint endpoint)
 void controller_address(uint8_t new_address)
 {
     address = new_address;
+}
+
+int controller_write_switch(void)
+{
+    return write_switch;
 }

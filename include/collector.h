@@ -2,8 +2,9 @@
  * The collector's USB drive: the device end of Bulk-Only mass storage, one unit of 512-byte blocks.
  *
  * The controller's driver calls one function for each thing that happens on the bus, and does on the wire what the
- * answer's number says. All state is in the caller's record, all blocks are in the caller's medium; the library has
- * no variables of its own, allocates nothing, waits for nothing and calls nothing but memcpy and memset.
+ * answer's number says. One more function tells the device where the collector's write switch is. All state is in the
+ * caller's record, all blocks are in the caller's medium; the library has no variables of its own, allocates nothing,
+ * waits for nothing and calls nothing but memcpy and memset.
  * The functions are proved against the specification in crates/machine; "document 01", as the change requests in
  * docs/requests amend it, is its text.
  *
@@ -33,7 +34,7 @@ extern "C" {
 #define COLLECTOR_STALL 3u          /* answer STALL */
 #define COLLECTOR_SILENT 4u         /* answer nothing: a bulk event on a device that is not configured */
 /* A number from 10 on is a refusal: the call was at fault, not the host. */
-#define COLLECTOR_BAD_RECORD 10u    /* the record does not fit together */
+#define COLLECTOR_BAD_RECORD 10u    /* the record does not fit together, or the switch's position is over 1 */
 #define COLLECTOR_BAD_MEDIUM 11u    /* medium empty, no multiple of 512, over 1,048,576 blocks, or not the record's size */
 #define COLLECTOR_SHORT_BUFFER 12u  /* answer buffer under 64 bytes */
 #define COLLECTOR_LONG_PACKET 13u   /* bulk-out packet over 64 bytes */
@@ -59,6 +60,10 @@ extern "C" {
 #define COLLECTOR_FLAG_HALT_OUT 4u
 #define COLLECTOR_FLAG_LOCKED 8u    /* Clear Feature does not free the pipes until the command is dropped */
 
+/* The write switch's positions. While it is closed, a Write fails and Mode Sense shows the medium write-protected. */
+#define COLLECTOR_SWITCH_OPEN 0u    /* as made */
+#define COLLECTOR_SWITCH_CLOSED 1u
+
 #define COLLECTOR_RECORD_SIZE 576
 #define COLLECTOR_RECORD_ALIGN 8
 
@@ -77,7 +82,8 @@ typedef struct collector_record {
     uint32_t place;         /* stage 1: the next block; 2 to 6 and 10: the next byte of the medium or reply; else 0 */
     uint32_t left;          /* stage 1: blocks still due; 2 to 6 and 10: bytes still due; else 0 */
     uint32_t value;         /* stage 1: bytes held of the next block; 3: the sense that is sent, key + 256 * ASC +
-                               65536 * ASCQ; 6: the blocks that are told; 10: the page's code; else 0 */
+                               65536 * ASCQ; 5: the switch's position that is told; 6: the blocks that are told;
+                               10: the page's code; else 0 */
     uint32_t extra;         /* stage 3: the information of the sense that is sent; else 0 */
     uint32_t tag;
     uint32_t announced;     /* the transfer length that the host announced */
@@ -89,7 +95,8 @@ typedef struct collector_record {
     uint8_t sense_key;      /* the unit's sense, with sense_information */
     uint8_t sense_asc;
     uint8_t sense_ascq;
-    uint8_t reserved1[2];
+    uint8_t write_switch;   /* COLLECTOR_SWITCH_OPEN or COLLECTOR_SWITCH_CLOSED */
+    uint8_t reserved1;
     uint8_t part[512];      /* the block being gathered; zeros where none is */
     uint8_t reserved2[4];
 } collector_record;
@@ -121,13 +128,14 @@ _Static_assert(sizeof(collector_answer) == 16, "size of collector_answer");
  * answers the first that fails. A refusal (10 to 15) and NAK and SILENT change no field, block or buffer; reserved bytes are
  * no fields, and a refused making is told below.
  * Any bytes may be handed over as a record. It is answered COLLECTOR_BAD_RECORD where it breaks document 01's rules
- * (number 10), and where flags is over 15, stage over 10, a place, left, value or extra not 0 in a stage that does not
- * use it, value 2^24 or more in stage 3, or value other than 00, 80 or 83 hex in stage 10.
+ * (number 10; write_switch over 1 is among them), and where flags is over 15, stage over 10, a place, left, value or
+ * extra not 0 in a stage that does not use it, value 2^24 or more in stage 3, value over 1 in stage 5, or value other
+ * than 00, 80 or 83 hex in stage 10.
  */
 
 /*
- * Makes a device: fresh, unconfigured, address 0, its number of blocks from the medium's length. The medium is neither
- * read nor changed; what the record held before does not matter.
+ * Makes a device: fresh, unconfigured, address 0, switch open, its number of blocks from the medium's length. The
+ * medium is neither read nor changed; what the record held before does not matter, its switch included.
  *   COLLECTOR_BAD_MEDIUM   the length is 0, no multiple of 512 or over COLLECTOR_MAX_MEDIUM_SIZE
  *   COLLECTOR_BAD_NUMBER   the number is over COLLECTOR_MAX_NUMBER
  *   COLLECTOR_ACK          the device is made
@@ -138,7 +146,7 @@ collector_answer collector_make(collector_record *record, uint64_t number, uint1
 
 /*
  * The host reset the bus. The command in hand is dropped (a part block is not stored), halts, lock and sense are
- * cleared, address and configuration are 0. Identity and medium stay.
+ * cleared, address and configuration are 0. Identity, switch and medium stay.
  *   COLLECTOR_BAD_RECORD
  *   COLLECTOR_ACK
  */
@@ -146,7 +154,7 @@ collector_answer collector_bus_reset(collector_record *record);
 
 /*
  * A control request came: its 8 setup bytes. Changes the record only where it answers ACK, and the buffer only where
- * it answers DATA, and of it the first `count` bytes only.
+ * it answers DATA, and of it the first `count` bytes only. No request moves the switch.
  *   COLLECTOR_BAD_RECORD
  *   COLLECTOR_SHORT_BUFFER
  *   COLLECTOR_BAD_SETUP
@@ -159,7 +167,8 @@ collector_answer collector_control(collector_record *record, const uint8_t *setu
 
 /*
  * A packet came on bulk-out (endpoint 02 hex): a command wrapper or data. Blocks reach the medium whole, with the
- * packet that completes them; no other byte of the medium changes.
+ * packet that completes them; no other byte of the medium changes. A Write that comes with the switch closed is
+ * answered ACK, as every good wrapper, takes no data and fails with sense 07/27/00; so does one of no blocks.
  *   COLLECTOR_BAD_RECORD
  *   COLLECTOR_BAD_MEDIUM   also where the length is not the record's number of blocks
  *   COLLECTOR_LONG_PACKET
@@ -186,6 +195,17 @@ collector_answer collector_bulk_out(collector_record *record, uint8_t *medium, s
  */
 collector_answer collector_bulk_in(collector_record *record, const uint8_t *medium, size_t medium_len,
                                    uint8_t *buffer, size_t buffer_len);
+
+/*
+ * The write switch is at this position, COLLECTOR_SWITCH_OPEN or COLLECTOR_SWITCH_CLOSED: sets it in the record and
+ * changes nothing else. There is nothing to do on the wire. It may be called between any two calls, with the position
+ * that is set already too: configured or not, halted, locked, in the middle of a command. The position counts from the
+ * next command wrapper on: a Write under way goes on, and a Mode Sense sends what its wrapper found. No reset and no
+ * request moves the switch, but collector_make opens it: so call this after each making.
+ *   COLLECTOR_BAD_RECORD   also where the position is over 1
+ *   COLLECTOR_ACK          set
+ */
+collector_answer collector_set_switch(collector_record *record, uint8_t position);
 
 #ifdef __cplusplus
 }

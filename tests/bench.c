@@ -25,7 +25,7 @@ bool same_record(const collector_record *a, const collector_record *b)
 
     for (int at = 0; at < 2; at++) {
         both[at].reserved0 = 0;
-        memset(both[at].reserved1, 0, sizeof both[at].reserved1);
+        both[at].reserved1 = 0;
         memset(both[at].reserved2, 0, sizeof both[at].reserved2);
     }
     return memcmp(&both[0], &both[1], sizeof both[0]) == 0;
@@ -79,6 +79,11 @@ uint32_t ask(bench *bench)
     return number_of(collector_bulk_in(&bench->record, bench->medium, MEDIUM, bench->buffer, 64));
 }
 
+uint32_t turn_switch(bench *bench, uint8_t position)
+{
+    return number_of(collector_set_switch(&bench->record, position));
+}
+
 void make(bench *bench)
 {
     memset(bench, FILL, sizeof *bench);
@@ -126,6 +131,14 @@ void expect_stage(const bench *bench, uint8_t stage, uint32_t place, uint32_t le
     EQUAL(bench->record.left, left);
     EQUAL(bench->record.value, value);
     EQUAL(bench->record.extra, 0);
+}
+
+void expect_unit_sense(const collector_record *record, uint8_t key, uint8_t asc, uint32_t information)
+{
+    EQUAL(record->sense_key, key);
+    EQUAL(record->sense_asc, asc);
+    EQUAL(record->sense_ascq, 0x00);
+    EQUAL(record->sense_information, information);
 }
 
 void expect_status(bench *bench, const char *residue, uint8_t status)

@@ -39,6 +39,7 @@ void configure(bench *bench);
 uint32_t control(bench *bench, const char *setup);
 uint32_t send_packet(bench *bench, const void *packet, size_t length);
 uint32_t ask(bench *bench);
+uint32_t turn_switch(bench *bench, uint8_t position);
 
 /* Asks for data, which must come; gives back its count. The rest of the buffer must stay. */
 size_t data_in(bench *bench);
@@ -51,12 +52,17 @@ void command(bench *bench, uint32_t announced, uint8_t direction, const char *bl
 void expect_command(const bench *bench, uint32_t announced, uint32_t residue);
 void expect_stage(const bench *bench, uint8_t stage, uint32_t place, uint32_t left, uint32_t value);
 
+/* The sense that a record's unit must hold; its qualifier is 00. */
+void expect_unit_sense(const collector_record *record, uint8_t key, uint8_t asc, uint32_t information);
+
 /* Asks for the status wrapper, which must come, and leave the device ready. */
 void expect_status(bench *bench, const char *residue, uint8_t status);
 
 #define SET_CONFIGURATION "\x00\x09\x01\x00\x00\x00\x00\x00"
 #define CLEAR_IN "\x02\x01\x00\x00\x81\x00\x00\x00"
 #define CLEAR_OUT "\x02\x01\x00\x00\x02\x00\x00\x00"
+#define SET_IN "\x02\x03\x00\x00\x81\x00\x00\x00"
+#define SET_OUT "\x02\x03\x00\x00\x02\x00\x00\x00"
 #define MASS_STORAGE_RESET "\x21\xFF\x00\x00\x00\x00\x00\x00"
 #define GET_MAX_LUN "\xA1\xFE\x00\x00\x00\x00\x01\x00"
 

@@ -7,6 +7,7 @@
 #include "product_pages.h"
 #include "records.h"
 #include "refused_block.h"
+#include "write_switch.h"
 
 #include <inttypes.h>
 #include <stdio.h>
@@ -42,7 +43,8 @@ static void layout(void)
     AT(sense_key, 55, 1);
     AT(sense_asc, 56, 1);
     AT(sense_ascq, 57, 1);
-    AT(reserved1, 58, 2);
+    AT(write_switch, 58, 1);
+    AT(reserved1, 59, 1);
     AT(part, 60, 512);
     AT(reserved2, 572, 4);
 #undef AT
@@ -96,6 +98,7 @@ static void refusals(void)
     EQUAL(number_of(collector_control(record, packet, 7, bench.buffer, 0)), COLLECTOR_BAD_RECORD);
     EQUAL(number_of(collector_bulk_out(record, bench.medium, 0, packet, 65)), COLLECTOR_BAD_RECORD);
     EQUAL(number_of(collector_bulk_in(record, bench.medium, 0, bench.buffer, 0)), COLLECTOR_BAD_RECORD);
+    EQUAL(number_of(collector_set_switch(record, COLLECTOR_SWITCH_CLOSED)), COLLECTOR_BAD_RECORD);
     CHECK(same(&bench, &before));
     CHECK(filled(other, sizeof other, 0));
 }
@@ -126,7 +129,7 @@ static void control_requests(void)
     EQUAL(answer.count, 18);
     CHECK(memcmp(bench.buffer, "\x12\x01\x00\x02\x00\x00\x00\x40\x09\x12\x01\x00\x00\x01\x01\x02\x03\x01", 18) == 0);
     CHECK(same_record(&bench.record, &before.record));
-    EQUAL(control(&bench, "\x02\x03\x00\x00\x81\x00\x00\x00"), COLLECTOR_ACK);
+    EQUAL(control(&bench, SET_IN), COLLECTOR_ACK);
     EQUAL(bench.record.flags, COLLECTOR_FLAG_CONFIGURED | COLLECTOR_FLAG_HALT_IN);
     EQUAL(ask(&bench), COLLECTOR_STALL);
     EQUAL(number_of(collector_bus_reset(&bench.record)), COLLECTOR_ACK);
@@ -331,6 +334,9 @@ int main(void)
     page_records();
     refused_blocks();
     refused_block_records();
+    write_switch_events();
+    write_switch_commands();
+    write_switch_records();
     records_that_do_not_decode();
     records_that_do_not_fit();
     printf("interface: %u checks passed\n", checks);

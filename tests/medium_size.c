@@ -78,6 +78,7 @@ static void misfits(store *store)
         EQUAL(send_to(store, store->buffer, 64), COLLECTOR_BAD_RECORD);
         EQUAL(request(store, SET_CONFIGURATION), COLLECTOR_BAD_RECORD);
         EQUAL(number_of(collector_bus_reset(&store->record)), COLLECTOR_BAD_RECORD);
+        EQUAL(number_of(collector_set_switch(&store->record, COLLECTOR_SWITCH_CLOSED)), COLLECTOR_BAD_RECORD);
         CHECK(same_record(&store->record, &before));
         CHECK(filled(store->buffer, sizeof store->buffer, FILL));
     }

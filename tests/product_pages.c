@@ -109,6 +109,9 @@ static void expect_record(uint32_t value, uint32_t place, uint32_t left)
     other = before;
     EQUAL(number_of(collector_bus_reset(&other.record)), fits ? COLLECTOR_ACK : COLLECTOR_BAD_RECORD);
     EQUAL(same(&other, &before), !fits);
+    other = before;
+    EQUAL(turn_switch(&other, COLLECTOR_SWITCH_CLOSED), fits ? COLLECTOR_ACK : COLLECTOR_BAD_RECORD);
+    EQUAL(same(&other, &before), !fits);
     if (fits && left > 0) {
         EQUAL(data_in(&bench), left);
         CHECK(memcmp(bench.buffer, page->bytes + place, left) == 0);

@@ -83,6 +83,8 @@ void refused(const bench *damaged)
     EQUAL(control(&bench, SET_CONFIGURATION), COLLECTOR_BAD_RECORD);
     EQUAL(send_packet(&bench, bench.buffer, 64), COLLECTOR_BAD_RECORD);
     EQUAL(ask(&bench), COLLECTOR_BAD_RECORD);
+    EQUAL(turn_switch(&bench, COLLECTOR_SWITCH_OPEN), COLLECTOR_BAD_RECORD);
+    EQUAL(turn_switch(&bench, COLLECTOR_SWITCH_CLOSED), COLLECTOR_BAD_RECORD);
     CHECK(same(&bench, damaged));
 }
 
@@ -96,18 +98,32 @@ static void must_be_zero(const bench *reached, size_t field)
     }
 }
 
+/* The switch at each position that is none. */
+static void must_be_a_position(const bench *reached)
+{
+    for (int position = 2; position < 256; position++) {
+        bench damaged = *reached;
+        damaged.record.write_switch = (uint8_t)position;
+        refused(&damaged);
+    }
+}
+
 void records_that_do_not_decode(void)
 {
-    bench passed;
+    bench made, passed;
 
+    make(&made);
+    must_be_a_position(&made);
     for (unsigned stage = 0; stage < STAGES; stage++) {
         bool transfer = (stage >= COLLECTOR_STAGE_DATA_OUT && stage <= COLLECTOR_STAGE_READ_CAPACITY) ||
                         stage == COLLECTOR_STAGE_PAGE;
         bool valued = stage == COLLECTOR_STAGE_DATA_OUT || stage == COLLECTOR_STAGE_REQUEST_SENSE ||
-                      stage == COLLECTOR_STAGE_READ_CAPACITY || stage == COLLECTOR_STAGE_PAGE;
+                      stage == COLLECTOR_STAGE_MODE_SENSE || stage == COLLECTOR_STAGE_READ_CAPACITY ||
+                      stage == COLLECTOR_STAGE_PAGE;
         bench reached, damaged;
 
         reach(&reached, stage);
+        must_be_a_position(&reached);
         for (int value = 16; value < 256; value++) {
             damaged = reached;
             damaged.record.flags = (uint8_t)value;
@@ -131,26 +147,35 @@ void records_that_do_not_decode(void)
             damaged.record.value |= (uint32_t)1 << bit;
             refused(&damaged);
         }
+        for (int bit = 1; bit < 32 && stage == COLLECTOR_STAGE_MODE_SENSE; bit++)
+            for (uint32_t position = 0; position < 2; position++) {
+                damaged = reached;
+                damaged.record.value = position | (uint32_t)1 << bit;
+                refused(&damaged);
+            }
     }
     /* The status of a command that passed, no pipe halted: an ask for it does not decode the record. */
     configure(&passed);
     command(&passed, 0, 0x00, TEST_UNIT_READY);
     EQUAL(passed.record.flags, COLLECTOR_FLAG_CONFIGURED);
+    must_be_a_position(&passed);
     must_be_zero(&passed, offsetof(collector_record, place));
     must_be_zero(&passed, offsetof(collector_record, left));
     must_be_zero(&passed, offsetof(collector_record, value));
     must_be_zero(&passed, offsetof(collector_record, extra));
 }
 
-#define REFUSED_WITH(at_stage, field, with)     \
-    do {                                        \
-        bench damaged;                          \
-        reach(&damaged, at_stage);              \
-        damaged.record.field = with;            \
-        refused(&damaged);                      \
+#define REFUSED_WITH(at_stage, field, with)                     \
+    do {                                                        \
+        bench damaged;                                          \
+        reach(&damaged, at_stage);                              \
+        damaged.record.field = with;                            \
+        refused(&damaged);                                      \
+        damaged.record.write_switch = COLLECTOR_SWITCH_CLOSED;  \
+        refused(&damaged);                                      \
     } while (0)
 
-/* Document 01's rules under number 10, each broken. */
+/* Document 01's rules under number 10, each broken, with the switch open and closed. */
 void records_that_do_not_fit(void)
 {
     REFUSED_WITH(COLLECTOR_STAGE_READY, blocks, 0);

@@ -30,14 +30,6 @@ static void sense_data(uint8_t data[SENSE_SIZE], uint8_t key, uint8_t asc, uint8
     data[13] = ascq;
 }
 
-static void expect_unit_sense(const collector_record *record, uint8_t key, uint8_t asc, uint32_t information)
-{
-    EQUAL(record->sense_key, key);
-    EQUAL(record->sense_asc, asc);
-    EQUAL(record->sense_ascq, 0x00);
-    EQUAL(record->sense_information, information);
-}
-
 /* Request Sense, whole: these bytes, and then no sense. */
 static void expect_sense(store *store, const uint8_t data[SENSE_SIZE])
 {

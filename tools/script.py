@@ -2,7 +2,7 @@
 
     reset                               setup 80 06 00 01 00 00 12 00
     out 55 53 42 ..                     out 64 x 07          (64 bytes of 07)
-    in
+    in                                  switch open     switch closed
     configure 1     address 5           clear in     set out     status in     msreset     maxlun
     descriptor device 18                (device, configuration, languages, vendor, product, serial)
     cbw tag=7 len=36 in COMMAND         (tag, len, in or out, unit=, size=, control=; what is left out is 1, 0, out, 0, the code's, 0)
@@ -17,6 +17,7 @@ import struct
 NAMES = {"device": 0x0100, "configuration": 0x0200, "languages": 0x0300, "vendor": 0x0301, "product": 0x0302, "serial": 0x0303}
 ENDPOINTS = {"in": 0x81, "out": 0x02, "control": 0x00}
 STATUS = {"passed": 0, "failed": 1, "phase": 2}
+POSITIONS = {"open": 0, "closed": 1}
 
 
 def number(word):
@@ -97,6 +98,8 @@ def event(words):
         return 3, octets(rest)
     if w == "cbw":
         return 3, cbw(rest)
+    if w == "switch":
+        return 5, bytes([POSITIONS[rest[0]]])
     forms = {
         "setup": lambda: octets(rest),
         "configure": lambda: setup(0x00, 0x09, number(rest[0])),

@@ -17,7 +17,7 @@ use Rattle.machine.specs.declared.record.State.{State}
 use Rattle.machine.specs.declared.wrapper.Wrapper.{Wrapper}
 use Rattle.machine.specs.declared.wrapper.Wrapper.the-variants.{Broken, Good}
 use Rattle.machine.specs.Begin.{begun, begunUnit}
-use Rattle.machine.specs.Units.{mostBlocks, sizeFits, unitAt}
+use Rattle.machine.specs.Units.{mostBlocks, sizeFits, unitAt, isProtected}
 use Rattle.machine.specs.Wrapper.{accepted, planFor, wrapperOf}
 use Rattle.begin.specs.InRange.{isInRange, pair, begunInRange}
 
@@ -40,7 +40,7 @@ wrapper-in-range u p s = by-if InRangeWrapper (accepted 1 p) _ _ good (λ _. tt)
     good : accepted 1 p ≡ true → InRangeWrapper (Good (headerOf p) (planFor (unitAt (u ∷ []) (headerOf p .lun)) (drop 15 p)))
     good a =
         let z : headerOf p .lun ≡ 0 = omega (arith, ltb-true (headerOf p .lun) 1 (both _ _ (both _ _ a .1) .0)) in
-        (z, rw z (in-range (u .blocks) (planFor u (drop 15 p)) (leb-true _ _ (both _ _ s .1)) (plan-fits (drop 15 p) (u .blocks))))
+        (z, rw z (in-range (u .blocks) (planFor u (drop 15 p)) (leb-true _ _ (both _ _ s .1)) (plan-fits (drop 15 p) (u .blocks) (isProtected u))))
 
 -- in a unit of a size that is served an accepted wrapper, which names unit 0, begins its command
 pub wrapper-begins : (u : LogicalUnit) (p : List ℕ) (h : Header) (plan : Plan) (s : State) → sizeFits (u .blocks) ≡ true → wrapperOf (u ∷ []) p ≡ Good h plan → (h .lun ≡ 0) × (begunInRange h plan s u ≡ pair (begun h plan s u) (begunUnit h plan u))

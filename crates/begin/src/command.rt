@@ -20,6 +20,7 @@ use scsi::command::Plan;
 use scsi::reply::Reply;
 use scsi::reply::ReplyKind;
 use scsi::sense::Sense;
+use state::states::is_protected;
 use state::states::moved;
 use state::states::with_sense;
 
@@ -71,7 +72,8 @@ fn own_status(plan: Plan) -> Status
     }
 }
 
-// A reply has the values found at the wrapper: Request Sense sends the sense that it found.
+// A reply has the values found at the wrapper: Request Sense sends the sense that it found, Mode Sense the position of
+// the switch.
 fn reply_of(kind: ReplyKind, unit: LogicalUnit) -> Reply
     ensures { λ r. ⌜ r ≡ replyOf kind unit ⌝ }
 {
@@ -81,7 +83,9 @@ fn reply_of(kind: ReplyKind, unit: LogicalUnit) -> Reply
         ReplyKind::Sense => Reply::Sense(sense),
         ReplyKind::Inquiry => Reply::Inquiry,
         ReplyKind::Page(page) => Reply::Page(page),
-        ReplyKind::ModeSense => Reply::ModeSense,
+        ReplyKind::ModeSense => Reply::ModeSense {
+            protected: is_protected(unit),
+        },
         ReplyKind::Capacity => Reply::Capacity { blocks },
     }
 }

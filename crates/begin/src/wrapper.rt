@@ -8,6 +8,7 @@ use machine::record::LogicalUnit;
 use machine::wrapper::Wrapper;
 use scsi::command::block_length;
 use scsi::command::plan_of;
+use state::states::is_protected;
 use wire::slices::byte;
 
 // The command block is read where it stands, from byte 15 on. There is one unit, number 0.
@@ -27,7 +28,7 @@ pub fn read_wrapper(packet: &[u8], unit: LogicalUnit) -> Wrapper
             }
             Wrapper::Good {
                 header,
-                plan: plan_of(&packet[15..], unit.blocks),
+                plan: plan_of(&packet[15..], unit.blocks, is_protected(unit)),
             }
         }
     }

@@ -49,6 +49,6 @@ module _ (i : Identity) (s : State) (p : List â„•) (u : LogicalUnit) (m : List â
       record {
         first = eqb-true _ _ (l .0);
         size = both _ _ (l .1) .0;
-        running = both _ _ (both _ _ (both _ _ (both _ _ (a .1) .1) .1) .1) .1;
+        running = both _ _ (both _ _ (both _ _ (both _ _ (both _ _ (a .1) .1) .1) .1) .1) .1;
         whole = eqb-true _ _ (passed _ _ _ (t .1) .0);
       }

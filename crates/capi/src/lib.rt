@@ -1,10 +1,10 @@
-// The C interface: making a collector and the four events over a record that C owns. Each answers document 01's number, and
+// The C interface: making a collector and the five events over a record that C owns. Each answers document 01's number, and
 // leaves what the specification machine leaves; specs/Calls.antt says what a list of calls comes to. include/collector.h
 // declares it.
 ghost use Prim.Native.Nat.{ℕ};
 ghost use mathlib.Core.Path.{_≡_};
 ghost use mathlib.Core.List.{List, []};
-ghost use Rattle.machine.specs.Machine.{busReset, bulkOut, bulkIn};
+ghost use Rattle.machine.specs.Machine.{busReset, bulkOut, bulkIn, setSwitch};
 ghost use Rattle.machine.specs.Machine as machines;
 ghost use Rattle.cevents.specs.Events.{left, onRecord, leftMade, onMaking};
 use cevents::turn::turn_control;
@@ -12,6 +12,7 @@ use cevents::turn::turn_in;
 use cevents::turn::turn_make;
 use cevents::turn::turn_out;
 use cevents::turn::turn_reset;
+use cevents::turn::turn_switch;
 use crecord::record::Given;
 use crecord::record::Record;
 use crecord::record::Told;
@@ -41,12 +42,21 @@ pub extern "C" fn collector_make(
     made.told
 }
 
-// No medium is lent to a bus reset or a control request: whichever there is stays as it was.
+// No medium is lent to a bus reset, a setting of the switch or a control request: whichever there is stays as it was.
 #[no_mangle]
 pub extern "C" fn collector_bus_reset(held: &mut Record) -> Told
     ensures { λ r. ⌜ ((m : List ℕ) → left r (now (held .exit)) m [] ≡ onRecord (now (held .entry)) m busReset) ⌝ }
 {
     let turn = turn_reset(held.given, held.flat, &mut held.part);
+    held.flat = turn.flat;
+    turn.told
+}
+
+#[no_mangle]
+pub extern "C" fn collector_set_switch(held: &mut Record, position: u8) -> Told
+    ensures { λ r. ⌜ ((m : List ℕ) → left r (now (held .exit)) m [] ≡ onRecord (now (held .entry)) m (setSwitch position)) ⌝ }
+{
+    let turn = turn_switch(held.given, held.flat, position);
     held.flat = turn.flat;
     turn.told
 }

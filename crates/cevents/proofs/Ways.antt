@@ -23,7 +23,7 @@ use Rattle.machine.specs.declared.record.Stage.{Stage}
 use Rattle.machine.specs.declared.record.Stage.the-variants.{DataOut, DataIn, StatusDue}
 use Rattle.machine.specs.declared.record.State.{State}
 use Rattle.machine.specs.declared.record.Device.{Device}
-use Rattle.machine.specs.Units.{mostBlocks, sizeFits, follow, laidOut, total, mediumFits}
+use Rattle.machine.specs.Units.{mostBlocks, sizeFits, switchFits, every, follow, laidOut, total, mediumFits}
 use Rattle.machine.specs.Record.{task, link, state, device, moved}
 use Rattle.machine.specs.World.{World, world, Out, out, UnitOut, unitOut}
 use Rattle.machine.specs.Fits.{addressFits, idleFits, lockFits, lunFits, stageFits, taskFits, outFits, inFits}
@@ -68,8 +68,17 @@ module _ (g : Given) (f : flats.Flat) (m : List ℕ) where
     sound = record { first = refl; size = w .free .size; running = and-true _ _ (w .lun) (w .running); whole = w .free .whole }
 
     fit : fitting here ≡ true
-    unfolding laidOut follow addressFits idleFits lockFits if_then_else_ _and_
-    fit = fits-of here (record { laid = and-true _ _ (w .free .size) refl; number = w .free .number; address = le-leb _ _ (w .free .address); idle = refl; lock = refl; task = sound .running })
+    unfolding laidOut follow every switchFits addressFits idleFits lockFits if_then_else_ _and_
+    fit =
+        fits-of here (record {
+          laid = and-true _ _ (w .free .size) refl;
+          switches = and-true _ _ (le-leb _ _ (w .free .switch)) refl;
+          number = w .free .number;
+          address = le-leb _ _ (w .free .address);
+          idle = refl;
+          lock = refl;
+          task = sound .running;
+        })
 
     whole : mediumFits (unitFrom f ∷ []) m ≡ true
     unfolding mediumFits total

@@ -8,11 +8,12 @@ use Rattle.machine.specs.Fits.{numberFits, outFits, inFits}
 use Rattle.crecord.specs.declared.record.Given.{Given}
 use Rattle.crecord.specs.declared.record.Flat as flats
 
--- A configured device, no pipe halted, over its medium, without the number that only a sense on its way has.
+-- A configured device, no pipe halted, over its medium, its switch open or closed, without the number that only a sense on its way has.
 pub record Free (g : Given) (f : flats.Flat) (medium : ℕ) : Type 0 where
   pub flags : f .flags ≡ 1
   pub extra : f .extra ≡ 0
   pub address : f .address ≤ 0x7F
+  pub switch : f .switch ≤ 1
   pub size : sizeFits (f .blocks) ≡ true
   pub number : numberFits (g .number) ≡ true
   pub whole : medium ≡ 512 * f .blocks
@@ -60,6 +61,7 @@ movedOn f stage residue place left value =
       key = f .key;
       asc = f .asc;
       ascq = f .ascq;
+      switch = f .switch;
     }
 
 -- The numbers once the command has ended.
@@ -81,4 +83,5 @@ ended f =
       key = f .key;
       asc = f .asc;
       ascq = f .ascq;
+      switch = f .switch;
     }

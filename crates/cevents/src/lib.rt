@@ -1,4 +1,4 @@
-// Making and the four events on the record as C holds it, by value: what the exported functions of `capi` do. Each is one
+// Making and the five events on the record as C holds it, by value: what the exported functions of `capi` do. Each is one
 // equation with the specification machine, for every input.
 mod quick;
 pub mod turn;

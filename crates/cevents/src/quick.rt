@@ -10,12 +10,14 @@ use state::fits::number_fits;
 use state::fits::out_fits;
 use state::fits::size_fits;
 
-// Configured, no pipe halted, over its medium, and without the number that only a sense on its way has.
+// Configured, no pipe halted, over its medium, its switch open or closed, and without the number that only a sense on its
+// way has.
 pub(crate) fn is_free(given: Given, flat: Flat, medium: usize) -> bool
     ensures { λ r. ⌜ (r ≡ true → Free given flat medium) ⌝ }
 {
     let flags = flat.flags;
     let address = flat.address;
+    let switch = flat.switch;
     let blocks = flat.blocks;
     let extra = flat.extra;
     let number = given.number;
@@ -26,6 +28,9 @@ pub(crate) fn is_free(given: Given, flat: Flat, medium: usize) -> bool
         return false;
     }
     if 0x7F < address {
+        return false;
+    }
+    if 1 < switch {
         return false;
     }
     if !size_fits(blocks as usize) {

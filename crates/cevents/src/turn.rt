@@ -1,8 +1,8 @@
-// The events on the record as C holds it: decoded, turned by `control` or `bulk`, encoded. The commonest events go a shorter way.
+// The events on the record as C holds it: decoded, turned by `control`, `bulk` or `collector`, encoded. The commonest events go a shorter way.
 ghost use mathlib.Core.Path.{_≡_};
 ghost use mathlib.Core.List.{List, []};
 ghost use Prim.Native.Nat.{ℕ};
-ghost use Rattle.machine.specs.Machine.{busReset, bulkOut, bulkIn};
+ghost use Rattle.machine.specs.Machine.{busReset, bulkOut, bulkIn, setSwitch};
 ghost use Rattle.machine.specs.Machine as machines;
 ghost use Rattle.crecord.specs.Flat.{identityFrom, answer, rec};
 ghost use Rattle.cevents.specs.Ways.{movedOn, ended};
@@ -17,6 +17,7 @@ use bot::csw::csw_bytes;
 use bulk::parts::in_parts;
 use bulk::parts::out_parts;
 use collector::making::make;
+use collector::switch::switch_parts;
 use control::parts::control_parts;
 use control::parts::reset_parts;
 use crecord::decode::decodes;
@@ -96,6 +97,27 @@ pub fn turn_reset(given: Given, flat: Flat, part: &mut [u8; 512]) -> Turn
     Turn { told, flat }
 }
 
+// The switch is set: nothing is lent for it, so the part block stays as it was.
+pub fn turn_switch(given: Given, flat: Flat, position: u8) -> Turn
+    ensures { λ r. ⌜ ((p m : List ℕ) → left (r .told) (rec given (r .flat) p) m [] ≡ onRecord (rec given flat p) m (setSwitch position)) ⌝ }
+{
+    if !decodes(flat) {
+        return undecoded(flat);
+    }
+    let moved = switch_parts(
+        identity_from(given),
+        state_from(flat),
+        unit_from(flat),
+        position,
+    );
+    let answer = moved.answer;
+    let state = moved.state;
+    let unit = moved.unit;
+    let told = told(answer);
+    let flat = flat_of(state, unit);
+    Turn { told, flat }
+}
+
 pub fn turn_control(
     given: Given,
     flat: Flat,
@@ -149,6 +171,7 @@ fn moved_on(flat: Flat, stage: u8, residue: u32, place: u32, left: u32, value: u
         key: flat.key,
         asc: flat.asc,
         ascq: flat.ascq,
+        switch: flat.switch,
     }
 }
 
@@ -172,6 +195,7 @@ fn ended(flat: Flat) -> Flat
         key: flat.key,
         asc: flat.asc,
         ascq: flat.ascq,
+        switch: flat.switch,
     }
 }
 

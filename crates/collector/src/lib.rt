@@ -1,4 +1,5 @@
-// Making a collector over a lent medium: one equation with the specification machine (crate `machine`). The four events
-// are in `control` and `bulk`, which take the small state and the unit by value and the block being gathered as a lent
-// array.
+// What is done at the collector itself: making it over a lent medium, and setting its write switch. Each is one equation
+// with the specification machine (crate `machine`). The four events of the bus are in `control` and `bulk`, which take
+// the small state and the unit by value and the block being gathered as a lent array.
 pub mod making;
+pub mod switch;

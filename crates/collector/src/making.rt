@@ -48,6 +48,7 @@ fn fresh(answer: Answer, identity: Identity, blocks: u32) -> Made
             first: 0,
             blocks,
             sense,
+            switch: 0,
         },
     }
 }

@@ -69,22 +69,33 @@ fn show(plan: Plan) {
 }
 
 // A command block's bytes, how many of them its code needs, and the plan.
-fn planned(s: &[u8]) {
+fn planned(s: &[u8], protected: bool) {
+    if protected {
+        text(b"protected, ");
+    }
     text(b"block");
     bytes(s, s.len());
     text(b": needs");
     hex(block_length(byte(s, 0)));
     text(b",");
-    show(plan_of(s, 128));
+    show(plan_of(s, 128, protected));
     end();
 }
 
 // Ten bytes, written as two numbers.
-fn block(front: u64, back: u16) {
+fn block_on(front: u64, back: u16, protected: bool) {
     let mut s = [0; 10];
     put_u64(&mut s, front);
     put_be16(&mut s, 8, back);
-    planned(&s);
+    planned(&s, protected);
+}
+
+fn block(front: u64, back: u16) {
+    block_on(front, back, false);
+}
+
+fn protected_block(front: u64, back: u16) {
+    block_on(front, back, true);
 }
 
 // Read 127 count 1, 128 count 0, 128 count 1, FFFFFFFF count 1, 0 count 1 with flag bit 5; Write 126 count 2; Verify 0 count 128; Read
@@ -113,7 +124,7 @@ fn others() {
     block(0x0300_0000_1200_0000, 0x0000);
     block(0x1A00_3F00_C000_0000, 0x0000);
     block(0x2500_0000_0000_0000, 0x0000);
-    planned(&[0xFF]);
+    planned(&[0xFF], false);
 }
 
 // The control byte: LINK in Test Unit Ready's, NACA in Inquiry's, bit 1 in a Read's, LINK in one of a Read out of range; Read of block 7,
@@ -157,10 +168,29 @@ fn product_pages() {
     block(0x1201_8000_FF04_0000, 0x0000);
 }
 
+// The write switch is closed: Write 126 count 2, 0 count 0, 128 count 0; Write 127 count 2 and 129 count 0, which are out of range; Write 0
+// count 1 with flag bit 5, and 127 count 2 with it; Write 0 count 1 with NACA. Of the others Read 127 count 1, Verify 0 count 128, Test
+// Unit Ready, Mode Sense of 192.
+fn write_protected() {
+    protected_block(0x2A00_0000_007E_0000, 0x0200);
+    protected_block(0x2A00_0000_0000_0000, 0x0000);
+    protected_block(0x2A00_0000_0080_0000, 0x0000);
+    protected_block(0x2A00_0000_007F_0000, 0x0200);
+    protected_block(0x2A00_0000_0081_0000, 0x0000);
+    protected_block(0x2A20_0000_0000_0000, 0x0100);
+    protected_block(0x2A20_0000_007F_0000, 0x0200);
+    protected_block(0x2A00_0000_0000_0000, 0x0104);
+    protected_block(0x2800_0000_007F_0000, 0x0100);
+    protected_block(0x2F00_0000_0000_0000, 0x8000);
+    protected_block(0x0000_0000_0000_0000, 0x0000);
+    protected_block(0x1A00_3F00_C000_0000, 0x0000);
+}
+
 pub(crate) fn run() {
     ranges();
     others();
     control_bytes();
     allocation_lengths();
     product_pages();
+    write_protected();
 }

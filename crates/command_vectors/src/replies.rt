@@ -1,4 +1,4 @@
-// The replies of document 01's commands, the pages of document 02, A2, and the block of A8.
+// The replies of document 01's commands, the pages of document 02, A2, the write switch of A4 and the block of A8.
 use crate::print::line;
 use scsi::page::Page;
 use scsi::reply::Reply;
@@ -11,6 +11,10 @@ fn capacity(name: &[u8], blocks: u32) {
 
 fn page(name: &[u8], page: Page, number: u64) {
     line(name, reply_bytes(Reply::Page(page), number));
+}
+
+fn mode_sense(name: &[u8], protected: bool) {
+    line(name, reply_bytes(Reply::ModeSense { protected }, 42));
 }
 
 pub(crate) fn run() {
@@ -27,7 +31,12 @@ pub(crate) fn run() {
         b"sense 05/24/00:",
         reply_bytes(Reply::Sense(Sense::INVALID_FIELD), 42),
     );
-    line(b"mode sense:", reply_bytes(Reply::ModeSense, 42));
+    line(
+        b"sense 07/27/00:",
+        reply_bytes(Reply::Sense(Sense::WRITE_PROTECTED), 42),
+    );
+    mode_sense(b"mode sense:", false);
+    mode_sense(b"mode sense, protected:", true);
     capacity(b"capacity of 128:", 128);
     capacity(b"capacity of 1048576:", 1_048_576);
     capacity(b"capacity of 1:", 1);

@@ -24,7 +24,7 @@ use Rattle.machine.specs.declared.record.State.{State}
 use Rattle.machine.specs.Units.{unit}
 use Rattle.machine.specs.Record.{task, link, state}
 use Rattle.crecord.specs.declared.record.Flat as flats
-use Rattle.crecord.specs.Flat.{numbers, numbersIn, senseNumber, senseFrom, isFound, pageStage, Form, none, two, three, noNumbers, noValue, isPage, forms, noForm, formOf, flag, decodes, stateFrom, unitFrom}
+use Rattle.crecord.specs.Flat.{numbers, numbersIn, senseNumber, senseFrom, isFound, pageStage, Form, none, two, three, noNumbers, noValue, isPosition, isPage, forms, noForm, formOf, flag, decodes, stateFrom, unitFrom}
 use Rattle.crecord.specs.Flat.{numbersOf, worth, flagsOf, flatWith, flatOf}
 use Rattle.crecord.specs.declared.encode.Numbers.{Numbers}
 use Rattle.crecord.specs.Claims.{IsState, RoundTrip}
@@ -116,7 +116,7 @@ abbrev ReadAs : Stage → Numbers → Type 0
 ReadAs g n = (formOf (n .stage) .has n ≡ true) × (formOf (n .stage) .stage n ≡ g)
 
 stage-back : (g : Stage) → ((n : Sense) (place left : ℕ) → g ≡ ReplyIn (reply.Sense n) place left → IsSense n) → ReadAs g (numbersOf g)
-unfolding numbersOf formOf look if_then_else_ noNumbers noValue isPage _and_
+unfolding numbersOf formOf look if_then_else_ noNumbers noValue isPosition isPage _and_
 stage-back Ready ok = (refl, refl)
 stage-back (DataOut block left held) ok = (refl, refl)
 stage-back (DataIn place left) ok = (refl, refl)
@@ -124,7 +124,8 @@ stage-back (ReplyIn (reply.Sense s) place left) ok =
     let b = ok s place left refl in
     (lt-ltb _ _ (sense-small s b), ap (λ (r : Sense). ReplyIn (reply.Sense r) place left) (sense-back s b))
 stage-back (ReplyIn reply.Inquiry place left) ok = (refl, refl)
-stage-back (ReplyIn reply.ModeSense place left) ok = (refl, refl)
+stage-back (ReplyIn (reply.ModeSense protected) place left) ok =
+    (and-true _ _ (le-leb _ _ (worth-bit protected 1 .1)) refl, ap (λ (x : Bool). ReplyIn (reply.ModeSense x) place left) (bit-back protected _ refl))
 stage-back (ReplyIn (reply.Capacity n) place left) ok = (refl, refl)
 stage-back (ReplyIn (reply.Page p) place left) ok = (and-true _ _ (ap isFound (code-found p)) refl, ap (λ (x : Listed). pageStage x place left) (code-found p))
 stage-back (StatusDue Passed) ok = (refl, refl)
@@ -132,10 +133,10 @@ stage-back (StatusDue Failed) ok = (refl, refl)
 stage-back (StatusDue PhaseError) ok = (refl, refl)
 
 stage-again : (n : Numbers) → formOf (n .stage) .has n ≡ true → numbersOf (formOf (n .stage) .stage n) ≡ n
-unfolding formOf numbersOf noNumbers noValue isPage
+unfolding formOf numbersOf noNumbers noValue isPosition isPage
 stage-again n =
     look-keyed P forms (n .stage) noForm
-    (no-transfer, (no-extra, (no-value, (sense, (no-value, (no-value, (no-extra, (no-transfer, (no-transfer, (no-transfer, (page, tt)))))))))))
+    (no-transfer, (no-extra, (no-value, (sense, (no-value, (mode, (no-extra, (no-transfer, (no-transfer, (no-transfer, (page, tt)))))))))))
     (λ h. let z : _≡_ {A = ℕ} 0 1 = cc in absurd (omega arith))
   where
     P : Form → Type 0
@@ -155,6 +156,13 @@ stage-again n =
 
     sense : n .stage ≡ 3 → ltb (n .value) (256 ^ 3) ≡ true → numbers 3 (n .place) (n .left) (senseNumber (senseFrom (n .value) (n .extra))) (senseFrom (n .value) (n .extra) .information) ≡ n
     sense e h = at e (sense-again (n .value) (n .extra) (ltb-true _ _ h)) (information-again (n .value) (n .extra))
+
+    mode : n .stage ≡ 5 → isPosition (n .value) (n .extra) ≡ true → numbers 5 (n .place) (n .left) (worth (eqb (n .value) 1) 1) 0 ≡ n
+    mode e h =
+        let b = both _ _ h in
+        let again = bit-again 1 (n .value) (omega (arith, leb-true (n .value) 1 (b .0))) in
+        let same : worth (eqb (n .value) 1) 1 ≡ n .value = omega arith in
+        at e same (zero _ (b .1))
 
     page : n .stage ≡ 10 → isPage (n .value) (n .extra) ≡ true → numbersOf (pageStage (pageOf (n .value)) (n .place) (n .left)) ≡ n
     page e h = let b = both _ _ h in pages (pageOf (n .value)) (found-code (n .value)) (b .0) (zero _ (b .1))
@@ -186,7 +194,7 @@ written-is-read s u ok =
 
 written-unit-is-read : (s : State) (u : LogicalUnit) → u .first ≡ 0 → unitFrom (flatOf s u) ≡ u
 unfolding flatOf flatWith
-written-unit-is-read s u e = λ i. unit (sym e i) (u .blocks) (u .sense)
+written-unit-is-read s u e = λ i. unit (sym e i) (u .blocks) (u .sense) (u .switch)
 
 read-is-written : (f : flats.Flat) → decodes f ≡ true → flatOf (stateFrom f) (unitFrom f) ≡ f
 unfolding decodes stateFrom flatOf flatWith flagsOf
@@ -210,6 +218,7 @@ read-is-written f h =
       key = f .key;
       asc = f .asc;
       ascq = f .ascq;
+      switch = f .switch;
     }
 
 pub round-trip : RoundTrip

@@ -66,6 +66,10 @@ noValue value extra = eqb value 0 and eqb extra 0
 unfoldable pub noNumbers : ℕ → ℕ → ℕ → ℕ → Bool
 noNumbers place left value extra = eqb place 0 and eqb left 0 and noValue value extra
 
+-- "A change during a command counts from the next wrapper" (document 02, A4): Mode Sense keeps the position that its wrapper found, 0 open or 1 closed.
+unfoldable pub isPosition : ℕ → ℕ → Bool
+isPosition value extra = leb value 1 and eqb extra 0
+
 unfoldable pub isPage : ℕ → ℕ → Bool
 isPage value extra = isFound (pageOf value) and eqb extra 0
 
@@ -85,7 +89,7 @@ forms =
     ∷ row 2 (form two (λ n. DataIn (n .place) (n .left)))
     ∷ row 3 (form (λ n. ltb (n .value) (256 ^ 3)) (λ n. ReplyIn (reply.Sense (senseFrom (n .value) (n .extra))) (n .place) (n .left)))
     ∷ row 4 (form two (λ n. ReplyIn reply.Inquiry (n .place) (n .left)))
-    ∷ row 5 (form two (λ n. ReplyIn reply.ModeSense (n .place) (n .left)))
+    ∷ row 5 (form (λ n. isPosition (n .value) (n .extra)) (λ n. ReplyIn (reply.ModeSense (eqb (n .value) 1)) (n .place) (n .left)))
     ∷ row 6 (form three (λ n. ReplyIn (reply.Capacity (n .value)) (n .place) (n .left)))
     ∷ row 7 (form none (λ n. StatusDue Passed))
     ∷ row 8 (form none (λ n. StatusDue Failed))
@@ -115,14 +119,17 @@ stateFrom f =
     (link (flag 1 (f .flags)) (flag 2 (f .flags)) (flag 3 (f .flags))
     (task (formOf (f .stage) .stage (numbersIn f)) 0 (f .tag) (f .announced) (f .residue)))
 
--- The unit has the whole medium.
+-- The unit has the whole medium. "The record gains its position" (document 02, A4): the switch's.
 abbrev pub unitFrom : flats.Flat → LogicalUnit
-unitFrom f = unit 0 (f .blocks) (record { key = f .key; asc = f .asc; ascq = f .ascq; information = f .information })
+unitFrom f = unit 0 (f .blocks) (record { key = f .key; asc = f .asc; ascq = f .ascq; information = f .information }) (f .switch)
 
 abbrev pub identityFrom : Given → Identity
 identityFrom g = record { number = g .number; vendor = g .vendor; product = g .product; release = g .release }
 
 -- ---- writing
+
+unfoldable pub worth : Bool → ℕ → ℕ
+worth on n = if on then n else 0
 
 unfoldable pub numbersOf : Stage → Numbers
 numbersOf Ready = numbers 0 0 0 0 0
@@ -130,15 +137,12 @@ numbersOf (DataOut block left held) = numbers 1 block left held 0
 numbersOf (DataIn place left) = numbers 2 place left 0 0
 numbersOf (ReplyIn (reply.Sense s) place left) = numbers 3 place left (senseNumber s) (s .information)
 numbersOf (ReplyIn reply.Inquiry place left) = numbers 4 place left 0 0
-numbersOf (ReplyIn reply.ModeSense place left) = numbers 5 place left 0 0
+numbersOf (ReplyIn (reply.ModeSense protected) place left) = numbers 5 place left (worth protected 1) 0
 numbersOf (ReplyIn (reply.Capacity n) place left) = numbers 6 place left n 0
 numbersOf (ReplyIn (reply.Page p) place left) = numbers 10 place left (pageCode p) 0
 numbersOf (StatusDue Passed) = numbers 7 0 0 0 0
 numbersOf (StatusDue Failed) = numbers 8 0 0 0 0
 numbersOf (StatusDue PhaseError) = numbers 9 0 0 0 0
-
-unfoldable pub worth : Bool → ℕ → ℕ
-worth on n = if on then n else 0
 
 unfoldable pub flagsOf : State → ℕ
 flagsOf s = worth (s .configured) 1 + worth (s .link .haltin) 2 + worth (s .link .haltout) 4 + worth (s .link .locked) 8
@@ -161,6 +165,7 @@ flatWith s u n =
       key = u .sense .key;
       asc = u .sense .asc;
       ascq = u .sense .ascq;
+      switch = u .switch;
     }
 
 unfoldable pub flatOf : State → LogicalUnit → flats.Flat

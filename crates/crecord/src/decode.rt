@@ -1,7 +1,7 @@
 // From the numbers that C holds to the device's state.
 ghost use mathlib.Core.Path.{_≡_};
 ghost use Rattle.scsi.specs.Page.{pageOf};
-ghost use Rattle.crecord.specs.Flat.{numbers, numbersIn, noValue, noNumbers, formOf, isPage, pageStage, decodes, senseFrom, stateFrom, unitFrom, identityFrom};
+ghost use Rattle.crecord.specs.Flat.{numbers, numbersIn, noValue, noNumbers, isPosition, formOf, isPage, pageStage, decodes, senseFrom, stateFrom, unitFrom, identityFrom};
 use crate::record::Flat;
 use crate::record::Given;
 use bot::csw::Status;
@@ -39,6 +39,16 @@ fn no_numbers(place: u32, left: u32, value: u32, extra: u32) -> bool
     no_value(value, extra)
 }
 
+// Mode Sense's value is whether the unit is write protected.
+fn is_position(value: u32, extra: u32) -> bool
+    ensures { λ r. ⌜ r ≡ isPosition value extra ⌝ }
+{
+    if 1 < value {
+        return false;
+    }
+    extra == 0
+}
+
 // A page is known by its code.
 fn is_page(code: u32, extra: u32) -> bool
     ensures { λ r. ⌜ r ≡ isPage code extra ⌝ }
@@ -72,7 +82,7 @@ fn stage_decodes(stage: u8, place: u32, left: u32, value: u32, extra: u32) -> bo
         2 => no_value(value, extra),
         3 => value < 0x1000000,
         4 => no_value(value, extra),
-        5 => no_value(value, extra),
+        5 => is_position(value, extra),
         6 => extra == 0,
         7 => no_numbers(place, left, value, extra),
         8 => no_numbers(place, left, value, extra),
@@ -134,7 +144,9 @@ fn stage_from(flat: Flat) -> Stage
             left,
         },
         5 => Stage::ReplyIn {
-            reply: Reply::ModeSense,
+            reply: Reply::ModeSense {
+                protected: value == 1,
+            },
             place,
             left,
         },
@@ -194,6 +206,7 @@ pub fn unit_from(flat: Flat) -> LogicalUnit
             ascq: flat.ascq,
             information: flat.information,
         },
+        switch: flat.switch,
     }
 }
 

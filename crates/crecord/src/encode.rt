@@ -72,7 +72,13 @@ fn numbers_of(stage: Stage) -> Numbers
         Stage::ReplyIn { reply, place, left } => match reply {
             Reply::Sense(sense) => numbered(3, place, left, sense_number(sense), sense.information),
             Reply::Inquiry => numbered(4, place, left, 0, 0),
-            Reply::ModeSense => numbered(5, place, left, 0, 0),
+            Reply::ModeSense { protected } => numbered(
+                5,
+                place,
+                left,
+                worth(protected, 1) as u32,
+                0,
+            ),
             Reply::Capacity { blocks } => numbered(6, place, left, blocks, 0),
             Reply::Page(page) => numbered(10, place, left, page_code(page), 0),
         },
@@ -109,6 +115,7 @@ pub fn flat_of(state: State, unit: LogicalUnit) -> Flat
         key: sense.key,
         asc: sense.asc,
         ascq: sense.ascq,
+        switch: unit.switch,
     }
 }
 

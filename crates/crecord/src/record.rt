@@ -26,6 +26,8 @@ pub struct Flat {
     pub key: u8,
     pub asc: u8,
     pub ascq: u8,
+    // The write switch: 0 open, 1 closed; no other fits.
+    pub switch: u8,
 }
 
 #[repr(C)]

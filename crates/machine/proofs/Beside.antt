@@ -19,7 +19,7 @@ use Rattle.machine.specs.declared.wrapper.Wrapper.the-variants.{Good}
 use Rattle.machine.specs.declared.record.Stage.{Stage}
 use Rattle.machine.specs.declared.record.Stage.the-variants.{StatusDue}
 use Rattle.machine.specs.declared.answer.Answer.the-variants.{Ack, Nak}
-use Rattle.machine.specs.Units.{cleared, mediumFits}
+use Rattle.machine.specs.Units.{asMade, mediumFits}
 use Rattle.machine.specs.Record.{withHalts, droppedState}
 use Rattle.machine.specs.World.{World, dropped, Out, out}
 use Rattle.machine.specs.Control.{haltIn, haltOut}
@@ -33,12 +33,12 @@ use Rattle.machine.specs.Beside.{Reached, IsDue, Accepts, DueExactly, Ca
 use Rattle.machine.proofs.Compute.{computes}
 use Rattle.machine.proofs.Along.{always}
 use Rattle.machine.proofs.Judge.{passes}
-use Rattle.machine.proofs.Tables.{cleared-sensed, same-total, laid-some}
+use Rattle.machine.proofs.Tables.{cleared-sensed, same-parts, same-total, laid-some}
 use Rattle.machine.proofs.Fit.{Fit, fit-of, fits-of}
 use Rattle.machine.proofs.Reach.{stays-fit}
 use Rattle.machine.proofs.Recover.{fits-after, fits-fresh, resets, clears-in, clears-out}
 use Rattle.machine.proofs.Due.{due}
-use Rattle.machine.proofs.Demand.{sound, born-fresh, together, same-parts, same-size}
+use Rattle.machine.proofs.Demand.{sound, born-fresh, together, made-parts, same-size}
 
 -- ---- every record reached fits
 
@@ -49,7 +49,7 @@ born-fits k ok =
 
 pub reached : Reached
 unfolding lived born
-reached k ok es = (fits-of _ (always Fit (λ w e f. stays-fit w f e) (born k) es (born-fits k ok)), together k ok es .identity, same-parts k ok es)
+reached k ok es = (fits-of _ (always Fit (λ w e f. stays-fit w f e) (born k) es (born-fits k ok)), together k ok es .identity, made-parts k ok es ∙ sym (ap (λ (w : World). w .units) (born-fresh k ok)), together k ok es .units)
 
 -- ---- recovery can be had
 
@@ -113,12 +113,12 @@ record StatusNext (w w′ : World) : Type 0 where
   configured : w′ .dev .state .configured ≡ w .dev .state .configured
   haltout : w′ .dev .state .link .haltout ≡ w .dev .state .link .haltout
   stage : w′ .dev .state .link .task .stage ≡ StatusDue Passed
-  parts : cleared (w′ .units) ≡ cleared (w .units)
+  parts : asMade (w′ .units) ≡ asMade (w .units)
   medium : w′ .medium ≡ w .medium
 
 status-next : (w : World) → StatusNext w (after w)
 unfolding computes
-status-next w = record { configured = refl; haltout = refl; stage = refl; parts = cleared-sensed (w .units) 0 _; medium = refl }
+status-next w = record { configured = refl; haltout = refl; stage = refl; parts = same-parts (after w .units) (w .units) (cleared-sensed (w .units) 0 _); medium = refl }
 
 acks-test : (w : World) → onWrapper (Good (headerOf test) Nothing) w ≡ out Ack (after w) []
 unfolding onWrapper
@@ -137,7 +137,7 @@ naks : (w : World) → w .dev .state .link .haltout ≡ false → w .dev .state 
 unfolding packetOut outStage
 naks w o e = ap (λ (r : Out). r .answer) (if-false _ _ _ o ∙ ap (λ (g : Stage). outStage g w test) e)
 
-pub same-medium : (w w′ : World) → cleared (w′ .units) ≡ cleared (w .units) → w′ .medium ≡ w .medium → mediumFits (w .units) (w .medium) ≡ true → mediumFits (w′ .units) (w′ .medium) ≡ true
+pub same-medium : (w w′ : World) → asMade (w′ .units) ≡ asMade (w .units) → w′ .medium ≡ w .medium → mediumFits (w .units) (w .medium) ≡ true → mediumFits (w′ .units) (w′ .medium) ≡ true
 unfolding mediumFits
 same-medium w w′ e m h = simp (same-total (w′ .units) (w .units) e, m) h
 
@@ -146,7 +146,7 @@ unfolding WrapperDue goodTest zeros
 is-due w f n u =
     let short : length test ≤ 64 = omega (arith, test-length) in
     let g = good (length (w .units)) (laid-some (w .units) (fit-of w f .laid)) in
-    let e₁ = taken w test Nothing (record { fit = f; medium = n; due = u; accepts = both _ _ g .0; plan = test-has-nothing _ }) ∙ acks-test w in
+    let e₁ = taken w test Nothing (record { fit = f; medium = n; due = u; accepts = both _ _ g .0; plan = test-has-nothing _ _ }) ∙ acks-test w in
     let s = status-next w in
     let f₁ = fits-after w (after w) [] (bulkOut test) f e₁ in
     let e₂ = out-passed (after w) test f₁ (same-medium w (after w) (s .parts) (s .medium) n) short (s .configured ∙ u .configured) in
@@ -157,7 +157,7 @@ whole : (k : Making) → Makes k → (es : List Event) → mediumFits (lived k e
 unfolding mediumFits
 whole k ok es =
     let s = sound (k .identity) (k .medium) ok in
-    simp (same-total (lived k es .world .units) (make (k .identity) (k .medium) .units) (same-parts k ok es ∙ sym (s .plain)), same-size k ok es) (s .whole)
+    simp (same-total (lived k es .world .units) (make (k .identity) (k .medium) .units) (made-parts k ok es ∙ sym (s .plain)), same-size k ok es) (s .whole)
 
 pub due-exactly : DueExactly
 due-exactly k ok es = (due (lived k es .world), is-due (lived k es .world) (reached k ok es .0) (whole k ok es))

@@ -21,7 +21,7 @@ use Rattle.machine.specs.declared.record.Stage.the-variants.{Ready, Data
 use Rattle.machine.specs.declared.record.Task.{Task}
 use Rattle.machine.specs.declared.record.LogicalUnit.{LogicalUnit}
 use Rattle.machine.specs.declared.record.Device.{Device}
-use Rattle.machine.specs.Units.{Table, unitAt, withSense}
+use Rattle.machine.specs.Units.{Table, unitAt, withSense, withSwitch, switchedTo}
 use Rattle.machine.specs.Record.{fresh, droppedState, moved}
 use Rattle.machine.specs.World.{World, world, dropped}
 use Rattle.machine.specs.Making.{oneUnit}
@@ -31,15 +31,15 @@ use Rattle.machine.specs.Machine.{Event, step}
 use Rattle.machine.specs.Tally.{Making}
 use Rattle.machine.specs.Claim.{born, lived}
 use Rattle.machine.proofs.Along.{always}
-use Rattle.machine.proofs.StepLaws.{Next, same, status-next, block-next, byte-next, reply-next, Later, on, over, sensedAt, Changed, moves, drops, begins, cuts, changes}
-use Rattle.machine.proofs.Tables.{unit-cleared, cleared-sensed, same-blocks}
+use Rattle.machine.proofs.StepLaws.{Next, same, status-next, block-next, byte-next, reply-next, Later, on, over, sensedAt, Changed, moves, drops, begins, turns, cuts, changes}
+use Rattle.machine.proofs.Tables.{unit-cleared, cleared-sensed, made-switched, same-parts, same-blocks}
 use Rattle.machine.proofs.Parts.{by-making}
 
 abbrev ReplySense : (Sense → Type 0) → replies.Reply → Type 0
 ReplySense P (reply.Sense s) = P s
 ReplySense P reply.Inquiry = Unit {0}
 ReplySense P (reply.Page p) = Unit {0}
-ReplySense P reply.ModeSense = Unit {0}
+ReplySense P (reply.ModeSense protected) = Unit {0}
 ReplySense P (reply.Capacity n) = Unit {0}
 
 abbrev pub StageSense : (Sense → Type 0) → Stage → Type 0
@@ -132,16 +132,21 @@ module _ (P : ℕ → Sense → Type 0) (made : Makes P) where
   unfolding withSense
   senses-at d us n s m h q t = record {
     units = each-set (UnitSense P) us n _ h q;
-    stage = subst (λ (k : ℕ). StageSense (P k) (d .state .link .task .stage)) (sym (same-blocks _ us (cleared-sensed us n s) _)) t;
+    stage = subst (λ (k : ℕ). StageSense (P k) (d .state .link .task .stage)) (sym (same-blocks _ us (same-parts _ us (cleared-sensed us n s)) _)) t;
   }
 
-  keeps : (w v : World) → Changed w v → Senses P w → Senses P v
-  unfolding dropped droppedState onWrapper begun begunBy begunUnit moved cutShort cutState
+  keeps : (w v : World) {e : Event} → Changed w e v → Senses P w → Senses P v
+  unfolding dropped droppedState onWrapper begun begunBy begunUnit moved cutShort cutState switchedTo withSwitch
   keeps w v (moves s p m t) h = record { units = h .units; stage = later (w .units) _ _ t (h .stage) }
   keeps w v (drops a c hi ho) h =
       record { units = λ n. subst (UnitSense P) (sym (unit-cleared (w .units) n)) (made .none _); stage = tt }
   keeps w v (begins c b l) h =
-      senses-at _ (w .units) (c .lun) _ _ (h .units) (sensed-sense _ _ _ _ (plan-sense (P _) b _ (made .fails _)) (h .units _)) (first-sense _ _ _ _ (h .units _))
+      senses-at _ (w .units) (c .lun) _ _ (h .units) (sensed-sense _ _ _ _ (plan-sense (P _) b _ _ (made .fails _)) (h .units _)) (first-sense _ _ _ _ (h .units _))
+  keeps w v (turns x) h =
+      record {
+        units = each-set (UnitSense P) (w .units) 0 _ (h .units) (h .units 0);
+        stage = subst (λ (k : ℕ). StageSense (P k) (w .dev .state .link .task .stage)) (sym (same-blocks _ (w .units) (made-switched (w .units) x) _)) (h .stage);
+      }
   keeps w v (cuts m) h = senses-at _ (w .units) _ dataPhase m (h .units) (made .phase _) tt
 
   pub keeps-senses : (w : World) → Senses P w → (e : Event) → Senses P (step w e .world)

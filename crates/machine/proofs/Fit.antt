@@ -9,7 +9,7 @@ use Rattle.wire.proofs.Cases.{both, and-true}
 use Rattle.machine.specs.declared.record.Stage.{Stage}
 use Rattle.machine.specs.declared.record.Stage.the-variants.{Ready, DataOut, DataIn, ReplyIn, StatusDue}
 use Rattle.machine.specs.declared.record.Task.{Task}
-use Rattle.machine.specs.Units.{Table, unitAt, cleared, laidOut, mediumFits}
+use Rattle.machine.specs.Units.{switchFits, Table, unitAt, asMade, every, laidOut, mediumFits}
 use Rattle.machine.specs.Fits.{numberFits, addressFits, idleFits, lockFits, outFits, stageFits, lunFits, taskFits, fits}
 use Rattle.machine.specs.World.{World}
 use Rattle.machine.specs.Machine.{fitting}
@@ -17,6 +17,7 @@ use Rattle.machine.proofs.Tables.{same-length, same-blocks, unit-within
 
 pub record Fit (w : World) : Type 0 where
   pub laid : laidOut (w .units) ≡ true
+  pub switches : every (λ u. switchFits (u .switch)) (w .units) ≡ true
   pub number : numberFits (w .dev .identity .number) ≡ true
   pub address : addressFits (w .dev .state .address) ≡ true
   pub idle : idleFits (w .dev .state) (w .units) ≡ true
@@ -31,11 +32,14 @@ fit-of w e =
     let c = both _ _ (b .1) in
     let d = both _ _ (c .1) in
     let f = both _ _ (d .1) in
-    record { laid = a .0; number = b .0; address = c .0; idle = d .0; lock = f .0; task = f .1 }
+    let g = both _ _ (f .1) in
+    record { laid = a .0; switches = b .0; number = c .0; address = d .0; idle = f .0; lock = g .0; task = g .1 }
 
 pub fits-of : (w : World) → Fit w → fitting w ≡ true
 unfolding fits
-fits-of w f = and-true _ _ (f .laid) (and-true _ _ (f .number) (and-true _ _ (f .address) (and-true _ _ (f .idle) (and-true _ _ (f .lock) (f .task)))))
+fits-of w f =
+    and-true _ _ (f .laid)
+    (and-true _ _ (f .switches) (and-true _ _ (f .number) (and-true _ _ (f .address) (and-true _ _ (f .idle) (and-true _ _ (f .lock) (f .task))))))
 
 -- ---- a task at the stage that it has
 
@@ -50,7 +54,7 @@ module _ (us : Table) (t : Task) (f : taskFits us t ≡ true) (g : Stage) (e : t
 
 -- ---- the table counts by its parts alone
 
-module _ (us vs : Table) (e : cleared us ≡ cleared vs) where
+module _ (us vs : Table) (e : asMade us ≡ asMade vs) where
   same-lun : (g : Stage) (n : ℕ) → lunFits g n us ≡ lunFits g n vs
   unfolding lunFits
   same-lun Ready n = refl

@@ -7,15 +7,16 @@ use lib.Dec.{leb}
 use lib.ListN.{length}
 use borrow.Author.Tests.{leb-true}
 use Rattle.wire.specs.Choice.{_and_}
+use Rattle.wire.proofs.Cases.{both}
 use Rattle.machine.specs.declared.answer.Answer.{Answer}
 use Rattle.machine.specs.declared.answer.Answer.the-variants.{Silent, Refused}
 use Rattle.machine.specs.declared.answer.Refusal.{Refusal}
 use Rattle.machine.specs.declared.answer.Refusal.the-variants as refusal
 use Rattle.machine.specs.declared.checks.Verdict.{Verdict}
 use Rattle.machine.specs.Answer.{numberOf, refusalNumber}
-use Rattle.machine.specs.Units.{mediumFits}
+use Rattle.machine.specs.Units.{switchFits, mediumFits}
 use Rattle.machine.specs.World.{World, Out, out}
-use Rattle.machine.specs.Machine.{Event, busReset, control, bulkOut, bulkIn, lent, fitting, checks, check, inOrder, effect, judged, step}
+use Rattle.machine.specs.Machine.{Event, busReset, control, bulkOut, bulkIn, setSwitch, lent, fitting, checks, check, inOrder, effect, judged, step}
 use Rattle.machine.specs.Tally.{isAck}
 use Rattle.machine.specs.Claim.{isRefusal}
 use Rattle.machine.specs.Beside.{isQuiet}
@@ -76,6 +77,11 @@ fit-passed busReset x = x .fit
 fit-passed (control s b) x = x .fit
 fit-passed (bulkOut p) x = x .fit
 fit-passed (bulkIn b) x = x .fit
+fit-passed (setSwitch y) x = both _ _ (x .fit) .0
+
+pub switch-passed : {w : World} {y : ℕ} → Passed w (setSwitch y) → switchFits y ≡ true
+unfolding checks
+switch-passed x = both _ _ (x .fit) .1
 
 module _ {w : World} (p b : List ℕ) where
   pub out-medium : Passed w (bulkOut p) → mediumFits (w .units) (w .medium) ≡ true

@@ -22,4 +22,5 @@ pub mod Beside
 pub mod Sent
 pub mod Sheet
 pub mod RefusedBlock
+pub mod Switch
 pub mod Witness

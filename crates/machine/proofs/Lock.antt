@@ -24,7 +24,7 @@ use Rattle.machine.specs.Record.{withHalts}
 use Rattle.machine.specs.World.{World, inState, dropped, Out, out}
 use Rattle.machine.specs.Control.{reset}
 use Rattle.machine.specs.Bulk.{lockedState, onWrapper, outStage, packetOut, ask, deliver, packetIn}
-use Rattle.machine.specs.Machine.{Event, busReset, control, bulkOut, bulkIn, lent, checks, effect, step, run}
+use Rattle.machine.specs.Machine.{Event, busReset, control, bulkOut, bulkIn, setSwitch, lent, checks, effect, step, run}
 use Rattle.machine.proofs.Along.{along}
 use Rattle.machine.proofs.Judge.{Barred, Passed, judge}
 use Rattle.machine.proofs.Requests.{Did, stalls, sends, acks, halts, addresses, configures, resets, performs}
@@ -79,6 +79,7 @@ module _ (w : World) (k : Locked w) where
   refused (control q b) a x = same _ a b refl
   refused (bulkOut p) a x = same _ a [] (refusal-shut a (x .number (k .configured)))
   refused (bulkIn b) a x = same _ a b (refusal-shut a (x .number (k .configured)))
+  refused (setSwitch y) a x = same _ a [] refl
 
   event : (e : Event) → Passed w e → Shut w e (effect w e)
   unfolding effect reset dropped packetOut packetIn ask deliver shutAt ends isAck
@@ -87,6 +88,7 @@ module _ (w : World) (k : Locked w) where
   event (bulkOut p) x = subst (Shut w (bulkOut p)) (sym (if-true (w .dev .state .link .haltout) (out Stall w []) _ (both _ _ (k .halted) .1))) (same (bulkOut p) Stall [] stall-shut)
   event (bulkIn b) x =
       subst (λ (a : Asked). Shut w (bulkIn b) (deliver a w b)) (sym (if-true (w .dev .state .link .haltin) (Quiet Stall) _ (both _ _ (k .halted) .0))) (same (bulkIn b) Stall b stall-shut)
+  event (setSwitch y) x = record { still = λ _. record { configured = k .configured; halted = k .halted; locked = k .locked }; medium = refl; pipe = refl }
 
 -- ---- over a list
 

@@ -7,7 +7,7 @@ use lib.ListN.{length}
 use Rattle.wire.proofs.Cases.{by-if}
 use Rattle.usb.specs.declared.descriptor.Identity.{Identity}
 use Rattle.machine.specs.declared.record.Task.{Task}
-use Rattle.machine.specs.Units.{unitAt, cleared}
+use Rattle.machine.specs.Units.{unitAt, asMade}
 use Rattle.machine.specs.Record.{fresh, noDevice, moved, droppedState}
 use Rattle.machine.specs.Fits.{numberFits}
 use Rattle.machine.specs.World.{World, world, dropped}
@@ -18,28 +18,30 @@ use Rattle.machine.specs.Machine.{Event, step}
 use Rattle.machine.specs.Tally.{Making}
 use Rattle.machine.specs.Claim.{born, lived}
 use Rattle.machine.proofs.Along.{always}
-use Rattle.machine.proofs.StepLaws.{Later, on, over, Changed, moves, drops, begins, cuts, changes}
-use Rattle.machine.proofs.Tables.{cleared-sensed, cleared-again, same-length, same-first}
+use Rattle.machine.proofs.StepLaws.{Later, on, over, Changed, moves, drops, begins, turns, cuts, changes}
+use Rattle.machine.proofs.Tables.{cleared-sensed, made-cleared, made-switched, same-parts, same-length, same-first}
 
 module _ (w : World) where
   abbrev lun : World → ℕ
   lun v = v .dev .state .link .task .lun
 
-  parts : (v : World) → Changed w v → cleared (v .units) ≡ cleared (w .units)
+  parts : {e : Event} (v : World) → Changed w e v → asMade (v .units) ≡ asMade (w .units)
   unfolding dropped onWrapper begunUnit
   parts v (moves s p m t) = refl
-  parts v (drops a c hi ho) = cleared-again (w .units)
-  parts v (begins h b l) = cleared-sensed (w .units) (h .lun) _
-  parts v (cuts m) = cleared-sensed (w .units) (lun w) _
+  parts v (drops a c hi ho) = made-cleared (w .units)
+  parts v (begins h b l) = same-parts _ (w .units) (cleared-sensed (w .units) (h .lun) _)
+  parts v (turns x) = made-switched (w .units) x
+  parts v (cuts m) = same-parts _ (w .units) (cleared-sensed (w .units) (lun w) _)
 
-  pub keeps-parts : (e : Event) → cleared (step w e .world .units) ≡ cleared (w .units)
+  pub keeps-parts : (e : Event) → asMade (step w e .world .units) ≡ asMade (w .units)
   keeps-parts e = parts _ (changes w e)
 
-  same : (v : World) → Changed w v → v .dev .identity ≡ w .dev .identity
+  same : {e : Event} (v : World) → Changed w e v → v .dev .identity ≡ w .dev .identity
   unfolding dropped onWrapper cutShort
   same v (moves s p m t) = refl
   same v (drops a c hi ho) = refl
   same v (begins h b l) = refl
+  same v (turns x) = refl
   same v (cuts m) = refl
 
   pub keeps-identity : (e : Event) → step w e .world .dev .identity ≡ w .dev .identity
@@ -51,11 +53,12 @@ module _ (w : World) where
     later t (on g r n) = i
     later t over = some
 
-    names : (v : World) → Changed w v → lun v < length (w .units)
+    names : {e : Event} (v : World) → Changed w e v → lun v < length (w .units)
     unfolding dropped droppedState onWrapper begun begunBy moved cutShort cutState
     names v (moves s p m t) = later _ t
     names v (drops a c hi ho) = some
     names v (begins h b l) = l
+    names v (turns x) = i
     names v (cuts m) = i
 
 -- a making leaves a fresh record and one unit, also where it refuses

@@ -40,17 +40,17 @@ use Rattle.bot.specs.Cbw.{headerOf}
 use Rattle.usb.specs.declared.request.Request.{Request}
 use Rattle.machine.specs.declared.ask.Source.{Source}
 use Rattle.machine.specs.declared.ask.Asked.{Asked}
-use Rattle.machine.specs.Units.{Table, unitAt, inTable, cleared, every, withPart}
+use Rattle.machine.specs.Units.{switchFits, Table, unitAt, inTable, cleared, switchedTo, every, withPart}
 use Rattle.machine.specs.Record.{device, noTask, withHalts, droppedState, withAddress, moved}
 use Rattle.machine.specs.Fits.{addressFits, isReady, idleFits, lockFits, outFits, inFits, stageFits, lunFits, taskFits}
-use Rattle.machine.specs.World.{World, world, inState, dropped, Out, UnitOut, inUnit}
+use Rattle.machine.specs.World.{World, world, inState, dropped, switched, Out, UnitOut, inUnit}
 use Rattle.machine.specs.Control.{reset}
 use Rattle.machine.specs.Begin.{hostOf, hasOf, replyOf, dataStage, firstStage, staged, begunBy, begun, begunUnit}
 use Rattle.machine.specs.Bulk.{lockedState, onWrapper, onward, cutShort, gathered, nextOut, storedBlock, onData, outStage, packetOut, cutState, gatheredState, storedState, nextIn, handedState, nextPacket, afterStatus, askStage, ask, deliver, packetIn}
-use Rattle.machine.specs.Machine.{Event, busReset, control, bulkOut, bulkIn, effect, step}
-use Rattle.machine.proofs.Judge.{Passed, judge, out-configured, in-configured}
+use Rattle.machine.specs.Machine.{Event, busReset, control, bulkOut, bulkIn, setSwitch, effect, step}
+use Rattle.machine.proofs.Judge.{Passed, judge, out-configured, in-configured, switch-passed}
 use Rattle.machine.proofs.Requests.{Did, stalls, sends, acks, halts, addresses, configures, resets, performs}
-use Rattle.machine.proofs.Tables.{cleared-again, cleared-sensed, calm-cleared, same-laid}
+use Rattle.machine.proofs.Tables.{cleared-again, cleared-sensed, calm-cleared, same-switches, calm-switched, fits-switched, made-cleared, made-switched, same-parts, same-laid}
 use Rattle.machine.proofs.Fit.{Fit, lun-fits, stage-fits, same-task}
 
 -- ---- the first stage of a command
@@ -105,7 +105,7 @@ planned us p h x =
     by-if (λ (w : Wrapper). w ≡ Good h x → Planned us h x) (accepted (length us) p) _ _
     (λ a e. subst (λ (y : Plan). Planned us h y) (plan-same e)
     (subst (λ (y : Header). Planned us y (planFor (unitAt us (headerOf p .lun)) (drop 15 p))) (header-same e)
-    (record { listed = both _ _ (both _ _ a .1) .0; fits = plan-fits (drop 15 p) (unitAt us (headerOf p .lun) .blocks) })))
+    (record { listed = both _ _ (both _ _ a .1) .0; fits = plan-fits (drop 15 p) (unitAt us (headerOf p .lun) .blocks) _ })))
     (λ _ e. absurd (broken e))
   where
     plan-same : {a b : Header} {y z : Plan} → Good a y ≡ Good b z → y ≡ z
@@ -192,12 +192,13 @@ module _ (w : World) (f : Fit w) where
   unfolding moved idleFits lockFits
   moves c k hi ho g b vs m e h =
       record {
-        laid = same-laid vs us e ∙ f .laid;
+        laid = same-laid vs us (same-parts vs us e) ∙ f .laid;
+        switches = same-switches vs us e ∙ f .switches;
         number = f .number;
         address = f .address;
         idle = if-true _ _ _ c;
         lock = if-false _ _ _ k;
-        task = same-task vs us e g ∙ h;
+        task = same-task vs us (same-parts vs us e) g ∙ h;
       }
 
   halted : s .configured ≡ true → (hi ho k : Bool) → (k ≡ true → (hi and ho) ≡ true) → Fit (inState w (withHalts s hi ho k))
@@ -205,6 +206,7 @@ module _ (w : World) (f : Fit w) where
   halted c hi ho k h =
       record {
         laid = f .laid;
+        switches = f .switches;
         number = f .number;
         address = f .address;
         idle = if-true _ _ _ c;
@@ -216,13 +218,27 @@ module _ (w : World) (f : Fit w) where
   unfolding dropped droppedState idleFits lockFits taskFits lunFits stageFits isReady if_then_else_ _and_
   drops a c hi ho l h =
       record {
-        laid = same-laid (cleared us) us (cleared-again us) ∙ f .laid;
+        laid = same-laid (cleared us) us (made-cleared us) ∙ f .laid;
+        switches = same-switches (cleared us) us (cleared-again us) ∙ f .switches;
         number = f .number;
         address = l;
         idle = by-if (λ (b : Bool). b ≡ true) c true (not hi and not ho and every (λ u. isNoSense (u .sense)) (cleared us)) (λ _. refl)
             (λ e. let b = both (not hi) (not ho) (h e) in and-true (not hi) _ (b .0) (and-true (not ho) _ (b .1) (calm-cleared us)));
         lock = refl;
         task = refl;
+      }
+
+  pub turns : (x : ℕ) → switchFits x ≡ true → Fit (switched w x)
+  unfolding idleFits
+  turns x h =
+      record {
+        laid = same-laid (switchedTo us x) us (made-switched us x) ∙ f .laid;
+        switches = fits-switched us x h (f .switches);
+        number = f .number;
+        address = f .address;
+        idle = simp (calm-switched us x) (f .idle);
+        lock = f .lock;
+        task = same-task (switchedTo us x) us (made-switched us x) t ∙ f .task;
       }
 
   -- ---- control requests
@@ -234,7 +250,7 @@ module _ (w : World) (f : Fit w) where
   requests q b r o e (acks m) = f
   requests q b r o e (halts hi ho m c h) = halted c hi ho _ (λ k. h k (locked-halts k))
   requests q b r o e (addresses a c) =
-      record { laid = f .laid; number = f .number; address = le-leb a 0x7F (address-low q a e); idle = f .idle; lock = f .lock; task = f .task }
+      record { laid = f .laid; switches = f .switches; number = f .number; address = le-leb a 0x7F (address-low q a e); idle = f .idle; lock = f .lock; task = f .task }
   requests q b r o e (configures v) = drops _ _ _ _ (f .address) (λ _. refl)
   requests q b r o e (resets c) = drops _ true _ _ (f .address) (λ x. absurd (true≢false x))
 
@@ -323,7 +339,7 @@ module _ (w : World) (f : Fit w) where
     unfolding afterStatus lockedState withHalts moved taskFits lunFits stageFits idleFits lockFits if_then_else_ _and_
     after status.Passed = onwards _ _ noTask refl
     after status.Failed = onwards _ _ noTask refl
-    after status.PhaseError = let h = onwards true true noTask refl in record { laid = h .laid; number = h .number; address = h .address; idle = if-true _ _ _ c; lock = refl; task = refl }
+    after status.PhaseError = let h = onwards true true noTask refl in record { laid = h .laid; switches = h .switches; number = h .number; address = h .address; idle = if-true _ _ _ c; lock = refl; task = refl }
 
     ins : (g : Stage) → t .stage ≡ g → Handed (askStage g s)
     unfolding askStage deliver stageFits lunFits
@@ -344,3 +360,4 @@ stays-fit w f e = judge (λ (o : Out). Fit (o .world)) w e (λ a x. f) (event e)
         by-if (λ (o : Out). Fit (o .world)) (w .dev .state .link .haltout) _ _ (λ _. f) (λ o. outs w f (out-configured p [] x) o p (w .dev .state .link .task .stage) refl)
     event (bulkIn b) x =
         by-if (λ (a : Asked). Fit (deliver a w b .world)) (w .dev .state .link .haltin) _ _ (λ _. f) (λ o. ins w f (in-configured [] b x) o b (w .dev .state .link .task .stage) refl)
+    event (setSwitch y) x = turns w f y (switch-passed x)

@@ -1,16 +1,16 @@
 -- Mass Storage Reset and both halt clearings, all acked, leave a collector that depends on identity, parts, address and medium alone;
--- a fresh one, given an address and configured, is that collector. Assumes nothing.
+-- a fresh one, given an address and configured, is that collector, and its switch can be set. Assumes nothing.
 use Prim.Native.Nat.{ℕ, _≤_}
 use mathlib.Core.Path.{_≡_, refl, sym, ap, _∙_, subst}
 use mathlib.Core.Bool.{Bool, true, false, true≢false}
-use mathlib.Core.List.{List, [], _∷_}
+use mathlib.Core.List.{List, [], _∷_, _++_}
 use native.Mathlib.Nat.{add-zero}
 use lib.ListN.{length}
 use borrow.Author.Tests.{le-leb, eq-eqb}
 use Rattle.wire.specs.Choice.{if_then_else_, _and_, look}
 use Rattle.wire.specs.Slices.{bytesAt}
 use Rattle.wire.specs.Numbers.{value}
-use Rattle.wire.proofs.Cases.{if-true}
+use Rattle.wire.proofs.Cases.{if-true, and-true}
 use Rattle.scsi.specs.Sense.{isNoSense}
 use Rattle.usb.specs.Request.{requestOf, decided, requests, isNoData, setAddress, setConfiguration, bare, endpoints, endpointOf, targetOf}
 use Rattle.usb.specs.declared.descriptor.Identity.{Identity}
@@ -19,16 +19,16 @@ use Rattle.usb.specs.declared.request.Request.{Request}
 use Rattle.usb.specs.declared.request.Request.the-variants.{SetAddress, SetConfiguration, ClearHalt, MassStorageReset}
 use Rattle.machine.specs.declared.answer.Answer.{Answer}
 use Rattle.machine.specs.declared.answer.Answer.the-variants.{Ack, Stall}
-use Rattle.machine.specs.Units.{Table, cleared, every, laidOut}
+use Rattle.machine.specs.Units.{switchFits, Table, asMade, every, laidOut}
 use Rattle.machine.specs.Record.{fresh, withHalts, droppedState, withAddress}
 use Rattle.machine.specs.Fits.{numberFits, addressFits, isReady, idleFits, lockFits, stageFits, lunFits, taskFits, fits}
-use Rattle.machine.specs.World.{World, world, inState, dropped, Out, out}
+use Rattle.machine.specs.World.{World, world, inState, dropped, switched, Out, out}
 use Rattle.machine.specs.Control.{needsConfigured, haltIn, haltOut, clearHalt, perform}
-use Rattle.machine.specs.Machine.{Event, control, fitting, checks, effect, step, run}
+use Rattle.machine.specs.Machine.{Event, control, setSwitch, fitting, checks, effect, step, run}
 use Rattle.machine.specs.Tally.{isAck}
 use Rattle.machine.specs.Claim.{answers, setup, recovery, settingUp}
 use Rattle.machine.proofs.Judge.{judge, passes, fit-passed}
-use Rattle.machine.proofs.Tables.{calm-cleared}
+use Rattle.machine.proofs.Tables.{calm-made, fits-made}
 use Rattle.machine.proofs.Fit.{Fit, fit-of, fits-of}
 use Rattle.machine.proofs.Reach.{stays-fit}
 
@@ -137,7 +137,7 @@ unfolding recovery
 recovery-fits w true x y z h = acked w _ x (first w _ _ Ack _ h .0) .1
 recovery-fits w false x y z h = acked w _ x (first w _ _ Ack _ h .0) .1
 
--- ---- a fresh collector, given an address and configured
+-- ---- a fresh collector, given an address, configured, and its switch set
 
 -- a control request whose checks pass is performed
 control-passed : (w : World) (q b : List ℕ) (r : Request) → fitting w ≡ true → 64 ≤ length b → length q ≡ 8 → requestOf q ≡ r → step w (control q b) ≡ perform r w b
@@ -145,20 +145,28 @@ unfolding checks effect
 control-passed w q b r f h k e =
     passes w (control q b) (record { fit = f; medium = refl; buffer = le-leb 64 (length b) h; packet = refl; setup = eq-eqb (length q) 8 k; configured = refl }) ∙ ap (λ (x : Request). perform x w b) e
 
+-- the switch of a record that fits goes to a position that fits
+turned : (w : World) (x : ℕ) → fitting w ≡ true → switchFits x ≡ true → step w (setSwitch x) ≡ out Ack (switched w x) []
+unfolding checks effect
+turned w x f h = passes w (setSwitch x) (record { fit = and-true _ _ f h; medium = refl; buffer = refl; packet = refl; setup = refl; configured = refl })
+
 -- what an event leaves fits again
 pub fits-after : (w w′ : World) (b : List ℕ) (e : Event) → fitting w ≡ true → step w e ≡ out Ack w′ b → fitting w′ ≡ true
 fits-after w w′ b e f h = fits-of w′ (subst (λ (o : Out). Fit (o .world)) h (stays-fit w (fit-of w f) e))
 
-module _ (i : Identity) (us : Table) (m : List ℕ) (laid : laidOut us ≡ true) (plain : cleared us ≡ us) (numbered : numberFits (i .number) ≡ true) where
+module _ (i : Identity) (us : Table) (m : List ℕ) (laid : laidOut us ≡ true) (plain : asMade us ≡ us) (numbered : numberFits (i .number) ≡ true) where
   abbrev new : World
   new = world (fresh i) us m
 
   calm : every (λ u. isNoSense (u .sense)) us ≡ true
-  calm = subst (λ (t : Table). every (λ u. isNoSense (u .sense)) t ≡ true) plain (calm-cleared us)
+  calm = subst (λ (t : Table). every (λ u. isNoSense (u .sense)) t ≡ true) plain (calm-made us)
+
+  unclosed : every (λ u. switchFits (u .switch)) us ≡ true
+  unclosed = subst (λ (t : Table). every (λ u. switchFits (u .switch)) t ≡ true) plain (fits-made us)
 
   pub fits-fresh : fitting new ≡ true
   unfolding fits fresh addressFits idleFits isReady lockFits taskFits lunFits stageFits if_then_else_ _and_
-  fits-fresh = simp (laid, numbered, calm)
+  fits-fresh = simp (laid, unclosed, numbered, calm)
 
   module _ (a : ℕ) (x y : List ℕ) (low : a ≤ 0x7F) (hx : 64 ≤ length x) (hy : 64 ≤ length y) where
     abbrev named : World
@@ -172,13 +180,17 @@ module _ (i : Identity) (us : Table) (m : List ℕ) (laid : laidOut us ≡ true)
     unfolding perform fresh dropped droppedState withAddress
     configured = control-passed named _ y (SetConfiguration 1) (fits-after new named x _ fits-fresh addressed) hy refl read-configure
 
-    pub set-up : run new (settingUp a x y)
-        ≡ record {
-          replies = record { answer = Ack; buffer = x; medium = m } ∷ record { answer = Ack; buffer = y; medium = m } ∷ [];
-          world = dropped new a true false false;
-        }
-    unfolding run settingUp dropped
-    set-up = rw (addressed, configured)
+    module _ (position : ℕ) (fitted : switchFits position ≡ true) where
+      switches : step (dropped new a true false false) (setSwitch position) ≡ out Ack (switched (dropped new a true false false) position) []
+      switches = turned _ position (fits-after named _ y _ (fits-after new named x _ fits-fresh addressed) configured) fitted
+
+      pub set-up : run new (settingUp a x y ++ setSwitch position ∷ [])
+          ≡ record {
+            replies = record { answer = Ack; buffer = x; medium = m } ∷ record { answer = Ack; buffer = y; medium = m } ∷ record { answer = Ack; buffer = []; medium = m } ∷ [];
+            world = switched (dropped new a true false false) position;
+          }
+      unfolding run settingUp dropped
+      set-up = rw (addressed, configured, switches)
 
 -- ---- the recovery of a configured device whose record fits is acked, with buffers of 64 bytes or more
 

@@ -46,7 +46,7 @@ unfolding carries isOutOfRange if_then_else_ _and_
 made = record {
   none = λ blocks. refl;
   phase = λ blocks. refl;
-  fails = λ blocks. record { code = refl; field = refl; range = λ block h. le-leb blocks block h };
+  fails = λ blocks. record { code = refl; field = refl; protected = refl; range = λ block h. le-leb blocks block h };
 }
 
 pub blocks-carried : BlocksCarried

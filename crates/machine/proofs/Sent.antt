@@ -36,7 +36,7 @@ use Rattle.machine.specs.declared.wrapper.Wrapper.the-variants.{Good}
 use Rattle.machine.specs.declared.ask.Asked.{Asked}
 use Rattle.machine.specs.declared.answer.Answer.the-variants.{Data, Ack}
 use Rattle.machine.specs.Record.{moved, task, withState}
-use Rattle.machine.specs.Units.{unitAt, cleared, mediumFits}
+use Rattle.machine.specs.Units.{unitAt, asMade, mediumFits}
 use Rattle.machine.specs.World.{World, world, inState, Out, out, sends}
 use Rattle.machine.specs.Begin.{hostOf, hasOf, ownStatus, replyOf, dataStage, firstStage, haltsIn, haltsOut, staged, begunBy, begun, begunUnit}
 use Rattle.machine.specs.Bulk.{onWrapper, nextIn, handedState, nextPacket, askStage, ask, bytesOf, deliver, packetIn}
@@ -135,7 +135,7 @@ some-sent w p b k allocated a t l h =
     let high : n ≤ 64 = omega arith in
     let e₁ : step w (bulkOut p) ≡ out Ack w₁ [] =
     asked w p k allocated a ∙ ap (λ (x : State). out Ack (world (withState (w .dev) x) us (w .medium)) []) (begins c k n (w .dev .state) u (t .inward) low (omega (arith, t .room))) in
-    let same : cleared us ≡ cleared (w .units) = subst (λ (o : Out). cleared (o .world .units) ≡ cleared (w .units)) e₁ (keeps-parts w (bulkOut p)) in
+    let same : asMade us ≡ asMade (w .units) = subst (λ (o : Out). asMade (o .world .units) ≡ asMade (w .units)) e₁ (keeps-parts w (bulkOut p)) in
     let e₂ : step w₁ (bulkIn b) ≡ sends (take n s) (inState w₁ (handedState r n n more)) b =
     in-passed w₁ b (fits-after w w₁ [] (bulkOut p) (a .fit) e₁) (same-medium w w₁ same refl (a .medium)) h (a .due .configured)
     ∙ handed w₁ b (replyOf k u) n (t .haltin) refl low high in

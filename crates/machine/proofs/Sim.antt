@@ -26,19 +26,19 @@ use Rattle.machine.specs.declared.wrapper.Wrapper.{Wrapper}
 use Rattle.machine.specs.declared.wrapper.Wrapper.the-variants.{Broken, Good}
 use Rattle.machine.specs.declared.answer.Answer.{Answer}
 use Rattle.machine.specs.declared.answer.Answer.the-variants.{Data, Ack, Nak, Stall}
-use Rattle.machine.specs.Units.{Table, unitAt, cleared, partOf, withPart}
+use Rattle.machine.specs.Units.{Table, unitAt, cleared, switchedTo, asMade, partOf, withPart}
 use Rattle.machine.specs.Record.{device, noTask, withHalts, droppedState, withAddress, moved}
-use Rattle.machine.specs.World.{World, world, inState, dropped, Out, out, UnitOut, inUnit}
+use Rattle.machine.specs.World.{World, world, inState, dropped, switched, Out, out, UnitOut, inUnit}
 use Rattle.machine.specs.Making.{make}
 use Rattle.machine.specs.Control.{reset}
 use Rattle.machine.specs.Wrapper.{wrapperOf}
 use Rattle.machine.specs.Begin.{begunBy, begun, begunUnit}
 use Rattle.machine.specs.Bulk.{lockedState, onWrapper, cutShort, gathered, nextOut, storedBlock, onData, outStage, packetOut, cutState, gatheredState, storedState, nextIn, handedState, nextPacket, afterStatus, askStage, ask, deliver, packetIn}
-use Rattle.machine.specs.Machine.{Event, busReset, control, bulkOut, bulkIn, effect, step}
+use Rattle.machine.specs.Machine.{Event, busReset, control, bulkOut, bulkIn, setSwitch, effect, step}
 use Rattle.machine.specs.Tally.{Making, Block, Tally, idle, writing, Log, log, writeOf, beginning, following, turned, taken, heard, heeded, isAck, noted, stored}
 use Rattle.machine.proofs.Judge.{Passed as Checked, judge, fit-passed, out-medium}
 use Rattle.machine.proofs.Requests.{Minor, Did, stalls, sends, acks, halts, addresses, configures, resets, performs}
-use Rattle.machine.proofs.Tables.{cleared-sensed, cleared-again, wrapper-cleared, same-first, in-place, in-place-same}
+use Rattle.machine.proofs.Tables.{cleared-sensed, cleared-again, wrapper-cleared, cleared-switched, made-cleared, made-switched, same-first, in-place, in-place-same}
 use Rattle.machine.proofs.Fill.{fill, fill-whole}
 use Rattle.machine.proofs.Grant.{Still, Begun, still, begins, grant}
 use Rattle.machine.proofs.Fit.{fit-of, Writes, writes}
@@ -49,6 +49,13 @@ stored-append : (us : Table) (m : List ℕ) (xs bs : List Block) → stored us m
 unfolding stored
 stored-append us m [] bs = refl
 stored-append us m (x ∷ xs) bs = stored-append us _ xs bs
+
+-- where a block goes is its unit's part alone
+stored-same : (us vs : Table) (m : List ℕ) (bs : List Block) → asMade us ≡ asMade vs → stored us m bs ≡ stored vs m bs
+unfolding stored
+stored-same us vs m [] e = refl
+stored-same us vs m (b ∷ bs) e =
+    ap (λ (n : ℕ). stored us (placed m (512 * (n + b .number)) (b .bytes)) bs) (same-first us vs e (b .lun)) ∙ stored-same us vs _ bs e
 
 -- ---- the relation
 
@@ -68,7 +75,7 @@ pub data Together : Tally → Stage → ℕ → List ℕ → Type 0 where
 pub record Sim (k : Making) (l : Log) (w : World) : Type 0 where
   pub identity : w .dev .identity ≡ k .identity
   pub units : cleared (w .units) ≡ l .units
-  pub parts : l .units ≡ make (k .identity) (k .medium) .units
+  pub parts : asMade (l .units) ≡ make (k .identity) (k .medium) .units
   pub address : w .dev .state .address ≡ l .address
   pub configured : w .dev .state .configured ≡ l .configured
   pub tally : Together (l .tally) (w .dev .state .link .task .stage) (w .dev .state .link .task .lun) (w .dev .part)
@@ -130,6 +137,19 @@ module _ (k : Making) (l : Log) (w : World) (s : Sim k l w) where
   unfolding dropped droppedState
   drops hi ho e f =
       record { identity = s .identity; units = cleared-again us ∙ s .units; parts = s .parts; address = e; configured = f; tally = rests tt refl; medium = s .medium }
+
+  -- the switch is set: the history has it too, and parts and blocks stay
+  turns : (x : ℕ) → Sim k (log (l .tally) (l .address) (l .configured) (switchedTo (l .units) x) (l .arrived)) (switched w x)
+  turns x =
+      record {
+        identity = s .identity;
+        units = cleared-switched us x ∙ ap (λ (t : Table). switchedTo t x) (s .units);
+        parts = made-switched (l .units) x ∙ s .parts;
+        address = s .address;
+        configured = s .configured;
+        tally = s .tally;
+        medium = s .medium ∙ sym (stored-same (switchedTo (l .units) x) (l .units) (k .medium) (l .arrived) (made-switched (l .units) x));
+      }
 
   -- a command moves on: tally, blocks that arrived, task, part block, table, medium
   moves : (t : Tally) (bs : List Block) (hi ho : Bool) (g : Task) (b : List ℕ) (us′ : Table) (m′ : List ℕ)
@@ -244,7 +264,7 @@ module _ (k : Making) (l : Log) (w : World) (s : Sim k l w) where
       placed-held = ap (λ (x : List ℕ). placed x held p) (g .front) ∙ ap (λ (j : ℕ). placed (bytes ++ zeros (512 - length bytes)) j p) (sym (g .size))
 
       first-of : u .first ≡ unitAt (l .units) (t₀ .lun) .first
-      first-of = same-first us (l .units) (s .units ∙ sym (ap cleared (sym (s .units)) ∙ cleared-again us ∙ s .units)) (t₀ .lun)
+      first-of = same-first us (l .units) (sym (made-cleared us) ∙ ap asMade (s .units)) (t₀ .lun)
 
       whole : length p ≡ 64 → held + 64 ≡ 512
           → withPart u (w .medium) (placed (partOf u (w .medium)) (512 * block) (placed (d .part) held p)) ≡ placed (w .medium) (512 * (unitAt (l .units) (t₀ .lun) .first + block)) (bytes ++ p)
@@ -339,3 +359,4 @@ simulates k l w e s = judge (Kept k l e) w e (λ a x. ignored k l w s e a (x .qu
         by-if (Kept k l (bulkOut p)) (w .dev .state .link .haltout) _ _ (λ _. ignored k l w s _ Stall refl) (λ _. outs k l w s p (w .dev .state .link .task .stage) refl x)
     event (bulkIn b) x =
         by-if (λ (a : asking.Asked). Kept k l (bulkIn b) (deliver a w b)) (w .dev .state .link .haltin) _ _ (λ _. ignored k l w s _ Stall refl) (λ _. ins k l w s b (w .dev .state .link .task .stage) refl)
+    event (setSwitch y) x = loud k l w s (setSwitch y) _ (turns k l w s y)

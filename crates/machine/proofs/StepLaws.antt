@@ -32,11 +32,11 @@ use Rattle.machine.specs.declared.ask.Asked.{Asked}
 use Rattle.machine.specs.declared.answer.Answer.the-variants.{Data, Nak}
 use Rattle.machine.specs.Units.{Table, unit, unitAt, withSense, withPart}
 use Rattle.machine.specs.Record.{device, task, noTask, withHalts, withAddress, moved}
-use Rattle.machine.specs.World.{World, world, inState, dropped, Out, out, sends, UnitOut, inUnit}
+use Rattle.machine.specs.World.{World, world, inState, dropped, switched, Out, out, sends, UnitOut, inUnit}
 use Rattle.machine.specs.Wrapper.{accepted, planFor, wrapperOf}
 use Rattle.machine.specs.Control.{reset}
 use Rattle.machine.specs.Bulk.{lockedState, onWrapper, cutShort, gatheredState, gathered, nextOut, storedState, storedBlock, onData, outStage, packetOut, nextIn, handedState, nextPacket, afterStatus, askStage, ask, bytesOf, deliver, packetIn}
-use Rattle.machine.specs.Machine.{Event, busReset, control, bulkOut, bulkIn, lent, effect, step}
+use Rattle.machine.specs.Machine.{Event, busReset, control, bulkOut, bulkIn, setSwitch, lent, effect, step}
 use Rattle.machine.specs.Beside.{isQuiet, Lawful, unchanged, stalled, locked, handed, acked, StepLaws}
 use Rattle.machine.proofs.Judge.{Passed, judge, in-room, control-room}
 use Rattle.machine.proofs.Requests.{Did, performs}
@@ -60,15 +60,17 @@ pub data Later (t : Task) : Task → Type 0 where
 abbrev pub sensedAt : Table → ℕ → Sense → Table
 sensedAt us n s = set us n (withSense (unitAt us n) s)
 
-pub data Changed (w : World) : World → Type 0 where
-  moves : (s : State) (p m : List ℕ) → Later (w .dev .state .link .task) (s .link .task) → Changed w (world (device (w .dev .identity) s p) (w .units) m)
-  drops : (a : ℕ) (c hi ho : Bool) → Changed w (dropped w a c hi ho)
-  begins : (h : Header) (b : List ℕ) → h .lun < length (w .units) → Changed w (onWrapper (Good h (planFor (unitAt (w .units) (h .lun)) b)) w .world)
-  cuts : (m : List ℕ) → Changed w (world (cutShort (w .dev)) (sensedAt (w .units) (w .dev .state .link .task .lun) dataPhase) m)
+-- what an event may change; only the event that sets the switch moves it
+pub data Changed (w : World) : Event → World → Type 0 where
+  moves : {e : Event} (s : State) (p m : List ℕ) → Later (w .dev .state .link .task) (s .link .task) → Changed w e (world (device (w .dev .identity) s p) (w .units) m)
+  drops : {e : Event} (a : ℕ) (c hi ho : Bool) → Changed w e (dropped w a c hi ho)
+  begins : {e : Event} (h : Header) (b : List ℕ) → h .lun < length (w .units) → Changed w e (onWrapper (Good h (planFor (unitAt (w .units) (h .lun)) b)) w .world)
+  turns : (x : ℕ) → Changed w (setSwitch x) (switched w x)
+  cuts : {e : Event} (m : List ℕ) → Changed w e (world (cutShort (w .dev)) (sensedAt (w .units) (w .dev .state .link .task .lun) dataPhase) m)
 
 -- what an event leaves of the collector w and the buffer b
-abbrev Does : World → List ℕ → Out → Type 0
-Does w b o = Lawful w b o × Changed w (o .world)
+abbrev Does : World → Event → List ℕ → Out → Type 0
+Does w e b o = Lawful w b o × Changed w e (o .world)
 
 -- ---- how long what is sent can be
 
@@ -91,23 +93,23 @@ module _ (w : World) where
   kept : Later (s .link .task) (s .link .task)
   kept = on _ _ same
 
-  stays : Changed w w
+  stays : {e : Event} → Changed w e w
   stays = moves s _ _ kept
 
-  naks : (b : List ℕ) → Does w b (out Nak w b)
+  naks : {e : Event} (b : List ℕ) → Does w e b (out Nak w b)
   unfolding isQuiet
   naks b = (unchanged Nak refl, stays)
 
   -- ---- a control request, an ask for a bulk-in packet
 
-  module _ (b : List ℕ) (h : 64 ≤ length b) where
+  module _ (e : Event) (b : List ℕ) (h : 64 ≤ length b) where
     -- data is put in front of the buffer, which is long enough
-    sent : (x : List ℕ) (y : State) → length x ≤ 64 → Later (s .link .task) (y .link .task) → Does w b (sends x (inState w y) b)
+    sent : (x : List ℕ) (y : State) → length x ≤ 64 → Later (s .link .task) (y .link .task) → Does w e b (sends x (inState w y) b)
     sent x y n t =
-        let e = placed-yes b 0 x (omega arith) ∙ ap (λ (k : ℕ). x ++ drop k b) (zero-add (length x)) in
-        (subst (λ (l : List ℕ). Lawful w b (out (Data (length x)) (inState w y) l)) (sym e) (handed _ x n h), moves y _ _ t)
+        let same = placed-yes b 0 x (omega arith) ∙ ap (λ (k : ℕ). x ++ drop k b) (zero-add (length x)) in
+        (subst (λ (l : List ℕ). Lawful w b (out (Data (length x)) (inState w y) l)) (sym same) (handed _ x n h), moves y _ _ t)
 
-    requests : (q : Request) (o : Out) → Did w b q o → Does w b o
+    requests : (q : Request) (o : Out) → Did w b q o → Does w e b o
     unfolding withHalts withAddress
     requests q o did.stalls = (stalled, stays)
     requests q o (did.sends x n) = sent x s n kept
@@ -118,7 +120,7 @@ module _ (w : World) where
     requests q o (did.resets c) = (acked _, drops _ _ _ _)
 
     abbrev Hands : Asked → Type 0
-    Hands a = Does w b (deliver a w b)
+    Hands a = Does w e b (deliver a w b)
 
     packets : (left : ℕ) (x : Source) (more : Stage) → length (bytesOf x w) ≤ 64 → Next (s .link .task .stage) more → Hands (nextPacket s left x more)
     unfolding nextPacket deliver handedState moved nextIn
@@ -132,58 +134,60 @@ module _ (w : World) where
 
     asks : (g : Stage) → s .link .task .stage ≡ g → Hands (askStage g s)
     unfolding askStage deliver bytesOf
-    asks Ready e = naks b
-    asks (DataOut block left held) e = naks b
-    asks (DataIn place left) e = packets left _ _ (at-most (min 64 left) _ (omega arith)) (byte-next _ _)
-    asks (ReplyIn r place left) e = packets left _ _ (at-most (min 64 left) _ (omega arith)) (reply-next r _ _ _ _ e)
-    asks (StatusDue x) e = sent _ _ (status-short _) (after x)
+    asks Ready i = naks b
+    asks (DataOut block left held) i = naks b
+    asks (DataIn place left) i = packets left _ _ (at-most (min 64 left) _ (omega arith)) (byte-next _ _)
+    asks (ReplyIn r place left) i = packets left _ _ (at-most (min 64 left) _ (omega arith)) (reply-next r _ _ _ _ i)
+    asks (StatusDue x) i = sent _ _ (status-short _) (after x)
 
   -- ---- a bulk-out packet
 
-  abbrev Takes : Out → Type 0
-  Takes = Does w []
+  module _ (p : List ℕ) where
+    abbrev Takes : Out → Type 0
+    Takes = Does w (bulkOut p) []
 
-  -- a unit that stays
-  in-unit : (n : ℕ) (x : State) (p m : List ℕ) → Later (s .link .task) (x .link .task)
-      → Changed w (world (device (w .dev .identity) x p) (set (w .units) n (unitAt (w .units) n)) m)
-  in-unit n x p m t =
-      subst (λ (us : Table). Changed w (world (device (w .dev .identity) x p) us m)) (sym (set-getD (w .units) n (unit 0 0 noSense))) (moves x p m t)
+    -- a unit that stays
+    in-unit : (n : ℕ) (x : State) (b m : List ℕ) → Later (s .link .task) (x .link .task)
+        → Changed w (bulkOut p) (world (device (w .dev .identity) x b) (set (w .units) n (unitAt (w .units) n)) m)
+    in-unit n x b m t =
+        subst (λ (us : Table). Changed w (bulkOut p) (world (device (w .dev .identity) x b) us m)) (sym (set-getD (w .units) n (unit 0 0 noSense 0))) (moves x b m t)
 
-  datas : (block left held : ℕ) (p : List ℕ) → Takes (inUnit w (s .link .task .lun) (onData block left held p))
-  unfolding inUnit onData gathered gatheredState storedBlock storedState moved nextOut
-  datas block left held p =
-      by-if In _ _ _ (λ _. by-if In _ _ _ (λ _. (acked _, in-unit _ _ _ _ (on _ _ (block-next _ _ _)))) (λ _. (acked _, in-unit _ _ _ _ (on _ _ stored))))
-      (λ _. (acked _, cuts _))
-    where
-      In : UnitOut → Type 0
-      In r =
-          let n = s .link .task .lun in
-          Takes (out (r .answer) (world (r .dev) (set (w .units) n (r .unit)) (withPart (unitAt (w .units) n) (w .medium) (r .medium))) [])
+    datas : (block left held : ℕ) → Takes (inUnit w (s .link .task .lun) (onData block left held p))
+    unfolding inUnit onData gathered gatheredState storedBlock storedState moved nextOut
+    datas block left held =
+        by-if In _ _ _ (λ _. by-if In _ _ _ (λ _. (acked _, in-unit _ _ _ _ (on _ _ (block-next _ _ _)))) (λ _. (acked _, in-unit _ _ _ _ (on _ _ stored))))
+        (λ _. (acked _, cuts _))
+      where
+        In : UnitOut → Type 0
+        In r =
+            let n = s .link .task .lun in
+            Takes (out (r .answer) (world (r .dev) (set (w .units) n (r .unit)) (withPart (unitAt (w .units) n) (w .medium) (r .medium))) [])
 
-      stored : Next (s .link .task .stage) (nextOut block left)
-      stored = by-if (Next _) _ _ _ (λ _. status-next _) (λ _. block-next _ _ _)
+        stored : Next (s .link .task .stage) (nextOut block left)
+        stored = by-if (Next _) _ _ _ (λ _. status-next _) (λ _. block-next _ _ _)
 
-  outs : (g : Stage) (p : List ℕ) → Takes (outStage g w p)
-  unfolding outStage onWrapper wrapperOf lockedState withHalts
-  outs Ready p = by-if (λ x. Takes (onWrapper x w)) _ _ _ (λ a. (acked _, begins _ _ (listed (w .units) p a))) (λ _. (locked, moves _ _ _ kept))
-  outs (DataOut block left held) p = by-if Takes _ _ _ (λ _. naks []) (λ _. datas block left held p)
-  outs (DataIn place left) p = naks []
-  outs (ReplyIn r place left) p = naks []
-  outs (StatusDue x) p = naks []
+    outs : (g : Stage) → Takes (outStage g w p)
+    unfolding outStage onWrapper wrapperOf lockedState withHalts
+    outs Ready = by-if (λ x. Takes (onWrapper x w)) _ _ _ (λ a. (acked _, begins _ _ (listed (w .units) p a))) (λ _. (locked, moves _ _ _ kept))
+    outs (DataOut block left held) = by-if Takes _ _ _ (λ _. naks []) (λ _. datas block left held)
+    outs (DataIn place left) = naks []
+    outs (ReplyIn r place left) = naks []
+    outs (StatusDue x) = naks []
 
-  passed : (e : Event) → Passed w e → Does w (lent e) (effect w e)
+  passed : (e : Event) → Passed w e → Does w e (lent e) (effect w e)
   unfolding lent effect reset packetOut packetIn ask deliver
   passed busReset x = (acked _, drops _ _ _ _)
-  passed (control q b) x = requests b (control-room q b x) _ _ (performs w b (requestOf q))
-  passed (bulkOut p) x = by-if Takes (s .link .haltout) _ _ (λ _. (stalled, stays)) (λ _. outs (s .link .task .stage) p)
+  passed (control q b) x = requests _ b (control-room q b x) _ _ (performs w b (requestOf q))
+  passed (bulkOut p) x = by-if (Takes p) (s .link .haltout) _ _ (λ _. (stalled, stays)) (λ _. outs p (s .link .task .stage))
   passed (bulkIn b) x =
       let h = in-room b b x in
-      by-if (Hands b h) (s .link .haltin) _ _ (λ _. (stalled, stays)) (λ _. asks b h (s .link .task .stage) refl)
+      by-if (Hands _ b h) (s .link .haltin) _ _ (λ _. (stalled, stays)) (λ _. asks _ b h (s .link .task .stage) refl)
+  passed (setSwitch y) x = (acked _, turns y)
 
-  does : (e : Event) → Does w (lent e) (step w e)
-  does e = judge (Does w (lent e)) w e (λ a x. (unchanged a (x .still), stays)) (passed e)
+  does : (e : Event) → Does w e (lent e) (step w e)
+  does e = judge (Does w e (lent e)) w e (λ a x. (unchanged a (x .still), stays)) (passed e)
 
-  pub changes : (e : Event) → Changed w (step w e .world)
+  pub changes : (e : Event) → Changed w e (step w e .world)
   changes e = does e .1
 
 pub step-laws : StepLaws

@@ -1,4 +1,4 @@
--- Laws of the table of units: what a sense leaves alone, and where a unit's part lies. Assumes nothing.
+-- Laws of the table of units: what a sense and a switch leave alone, and where a unit's part lies. Assumes nothing.
 use Prim.Native.Nat.{ℕ, zero, suc, _+_, _*_, _≤_, _<_}
 use mathlib.Core.Path.{_≡_, refl, sym, ap, _∙_}
 use mathlib.Core.Bool.{Bool, true}
@@ -10,12 +10,12 @@ use lib.Seq.{map-set-same}
 use borrow.Author.Tests.{eqb-true, leb-true}
 use Rattle.wire.specs.Choice.{_and_}
 use Rattle.wire.specs.Slices.{placed}
-use Rattle.wire.proofs.Cases.{both}
+use Rattle.wire.proofs.Cases.{both, and-true}
 use Rattle.wire.proofs.Parts.{put-back, placed-part}
 use Rattle.scsi.specs.Sense.{noSense, isNoSense}
 use Rattle.scsi.specs.declared.sense.Sense.{Sense}
 use Rattle.machine.specs.declared.record.LogicalUnit.{LogicalUnit}
-use Rattle.machine.specs.Units.{blockSize, sizeFits, Table, unit, unitAt, withSense, unsensed, cleared, every, total, follow, laidOut, mediumFits, partOf, withPart}
+use Rattle.machine.specs.Units.{blockSize, sizeFits, switchFits, Table, unit, unitAt, withSense, unsensed, cleared, isProtected, withSwitch, switchedTo, unused, asMade, every, total, follow, laidOut, mediumFits, partOf, withPart}
 use Rattle.machine.specs.Wrapper.{wrapperOf}
 
 -- ---- senses
@@ -27,12 +27,12 @@ length-cleared (u ∷ us) = let h = length-cleared us in omega arith
 
 pub unit-cleared : (us : Table) (n : ℕ) → unitAt (cleared us) n ≡ unsensed (unitAt us n)
 unfolding cleared
-unit-cleared us n = List·getD-map unsensed us n (unit 0 0 noSense)
+unit-cleared us n = List·getD-map unsensed us n (unit 0 0 noSense 0)
 
 -- a sense is not in a cleared table
 pub cleared-sensed : (us : Table) (n : ℕ) (s : Sense) → cleared (set us n (withSense (unitAt us n) s)) ≡ cleared us
 unfolding cleared withSense
-cleared-sensed us n s = map-set-same unsensed us n (withSense (unitAt us n) s) (unit 0 0 noSense) refl
+cleared-sensed us n s = map-set-same unsensed us n (withSense (unitAt us n) s) (unit 0 0 noSense 0) refl
 
 pub cleared-again : (us : Table) → cleared (cleared us) ≡ cleared us
 unfolding cleared
@@ -44,24 +44,103 @@ unfolding every cleared isNoSense _and_
 calm-cleared [] = refl
 calm-cleared (u ∷ us) = calm-cleared us
 
--- a wrapper is read by the parts alone
+-- a wrapper is read by parts and switches, not by senses
 pub wrapper-cleared : (us : Table) (p : List ℕ) → wrapperOf (cleared us) p ≡ wrapperOf us p
-unfolding wrapperOf cleared
+unfolding wrapperOf cleared isProtected
 wrapper-cleared us p = simp (length-cleared us, unit-cleared us)
 
-total-cleared : (us : Table) → total (cleared us) ≡ total us
-unfolding total cleared
-total-cleared [] = refl
-total-cleared (u ∷ us) = ap (λ (n : ℕ). u .blocks + n) (total-cleared us)
+-- the switches of a table fit whatever its senses are
+switches-cleared : (us : Table) → every (λ u. switchFits (u .switch)) (cleared us) ≡ every (λ u. switchFits (u .switch)) us
+unfolding every cleared
+switches-cleared [] = refl
+switches-cleared (u ∷ us) = ap (λ (b : Bool). switchFits (u .switch) and b) (switches-cleared us)
 
-follow-cleared : (k : ℕ) (us : Table) → follow k (cleared us) ≡ follow k us
-unfolding follow cleared
-follow-cleared k [] = refl
-follow-cleared k (u ∷ us) = ap (λ (b : Bool). eqb (u .first) k and sizeFits (u .blocks) and b) (follow-cleared (k + u .blocks) us)
+pub same-switches : (us vs : Table) → cleared us ≡ cleared vs → every (λ u. switchFits (u .switch)) us ≡ every (λ u. switchFits (u .switch)) vs
+same-switches us vs e = sym (switches-cleared us) ∙ ap (every (λ u. switchFits (u .switch))) e ∙ switches-cleared vs
 
-laid-cleared : (us : Table) → laidOut (cleared us) ≡ laidOut us
+-- ---- switches
+
+pub cleared-switched : (us : Table) (x : ℕ) → cleared (switchedTo us x) ≡ switchedTo (cleared us) x
+unfolding cleared switchedTo withSwitch
+cleared-switched [] x = refl
+cleared-switched (u ∷ us) x = refl
+
+pub calm-switched : (us : Table) (x : ℕ) → every (λ u. isNoSense (u .sense)) (switchedTo us x) ≡ every (λ u. isNoSense (u .sense)) us
+unfolding every switchedTo withSwitch
+calm-switched [] x = refl
+calm-switched (u ∷ us) x = refl
+
+pub fits-switched : (us : Table) (x : ℕ) → switchFits x ≡ true → every (λ u. switchFits (u .switch)) us ≡ true → every (λ u. switchFits (u .switch)) (switchedTo us x) ≡ true
+unfolding every switchedTo withSwitch
+fits-switched [] x h e = refl
+fits-switched (u ∷ us) x h e = and-true _ _ h (both _ _ e .1)
+
+pub switch-at : (us : Table) (n : ℕ) → every (λ u. switchFits (u .switch)) us ≡ true → switchFits (unitAt us n .switch) ≡ true
+unfolding every switchFits
+switch-at [] n e = refl
+switch-at (u ∷ us) zero e = both _ _ e .0
+switch-at (u ∷ us) (suc n) e = switch-at us n (both _ _ e .1)
+
+-- ---- the table as made: its parts
+
+length-made : (us : Table) → length (asMade us) ≡ length us
+unfolding asMade
+length-made [] = refl
+length-made (u ∷ us) = let h = length-made us in omega arith
+
+unit-made : (us : Table) (n : ℕ) → unitAt (asMade us) n ≡ unused (unitAt us n)
+unfolding asMade
+unit-made us n = List·getD-map unused us n (unit 0 0 noSense 0)
+
+total-made : (us : Table) → total (asMade us) ≡ total us
+unfolding total asMade
+total-made [] = refl
+total-made (u ∷ us) = ap (λ (n : ℕ). u .blocks + n) (total-made us)
+
+follow-made : (k : ℕ) (us : Table) → follow k (asMade us) ≡ follow k us
+unfolding follow asMade
+follow-made k [] = refl
+follow-made k (u ∷ us) = ap (λ (b : Bool). eqb (u .first) k and sizeFits (u .blocks) and b) (follow-made (k + u .blocks) us)
+
+laid-made : (us : Table) → laidOut (asMade us) ≡ laidOut us
 unfolding laidOut
-laid-cleared us = simp (length-cleared us, follow-cleared 0 us)
+laid-made us = simp (length-made us, follow-made 0 us)
+
+pub calm-made : (us : Table) → every (λ u. isNoSense (u .sense)) (asMade us) ≡ true
+unfolding every asMade isNoSense _and_
+calm-made [] = refl
+calm-made (u ∷ us) = calm-made us
+
+pub fits-made : (us : Table) → every (λ u. switchFits (u .switch)) (asMade us) ≡ true
+unfolding every asMade switchFits _and_
+fits-made [] = refl
+fits-made (u ∷ us) = fits-made us
+
+pub cleared-made : (us : Table) → cleared (asMade us) ≡ asMade us
+unfolding cleared asMade
+cleared-made [] = refl
+cleared-made (u ∷ us) = ap (λ (t : Table). unused u ∷ t) (cleared-made us)
+
+pub made-cleared : (us : Table) → asMade (cleared us) ≡ asMade us
+unfolding cleared asMade
+made-cleared [] = refl
+made-cleared (u ∷ us) = ap (λ (t : Table). unused u ∷ t) (made-cleared us)
+
+pub made-switched : (us : Table) (x : ℕ) → asMade (switchedTo us x) ≡ asMade us
+unfolding asMade switchedTo withSwitch
+made-switched [] x = refl
+made-switched (u ∷ us) x = refl
+
+-- tables that differ in their senses have the same parts
+pub same-parts : (us vs : Table) → cleared us ≡ cleared vs → asMade us ≡ asMade vs
+same-parts us vs e = sym (made-cleared us) ∙ ap asMade e ∙ made-cleared vs
+
+-- one unit as made, its switch set again
+pub switched-back : (us : Table) → length us ≡ 1 → cleared us ≡ us → switchedTo (asMade us) (unitAt us 0 .switch) ≡ us
+unfolding cleared asMade switchedTo withSwitch
+switched-back [] n e = absurd (omega arith)
+switched-back (u ∷ []) n e = e
+switched-back (u ∷ v ∷ us) n e = absurd (omega arith)
 
 -- a table that is laid out has a unit
 pub laid-some : (us : Table) → laidOut us ≡ true → 1 ≤ length us
@@ -69,24 +148,21 @@ unfolding laidOut
 laid-some us h = leb-true _ _ (both _ _ h .0)
 
 -- two tables of the same parts
-module _ (us vs : Table) (e : cleared us ≡ cleared vs) where
+module _ (us vs : Table) (e : asMade us ≡ asMade vs) where
   pub same-length : length us ≡ length vs
-  same-length = sym (length-cleared us) ∙ ap length e ∙ length-cleared vs
+  same-length = sym (length-made us) ∙ ap length e ∙ length-made vs
 
   pub same-laid : laidOut us ≡ laidOut vs
-  same-laid = sym (laid-cleared us) ∙ ap laidOut e ∙ laid-cleared vs
+  same-laid = sym (laid-made us) ∙ ap laidOut e ∙ laid-made vs
 
   pub same-total : total us ≡ total vs
-  same-total = sym (total-cleared us) ∙ ap total e ∙ total-cleared vs
+  same-total = sym (total-made us) ∙ ap total e ∙ total-made vs
 
   pub same-first : (n : ℕ) → unitAt us n .first ≡ unitAt vs n .first
-  same-first n = ap (λ (u : LogicalUnit). u .first) (sym (unit-cleared us n) ∙ ap (λ (t : Table). unitAt t n) e ∙ unit-cleared vs n)
+  same-first n = ap (λ (u : LogicalUnit). u .first) (sym (unit-made us n) ∙ ap (λ (t : Table). unitAt t n) e ∙ unit-made vs n)
 
   pub same-blocks : (n : ℕ) → unitAt us n .blocks ≡ unitAt vs n .blocks
-  same-blocks n = ap (λ (u : LogicalUnit). u .blocks) (sym (unit-cleared us n) ∙ ap (λ (t : Table). unitAt t n) e ∙ unit-cleared vs n)
-
-  pub same-wrapper : (p : List ℕ) → wrapperOf us p ≡ wrapperOf vs p
-  same-wrapper p = sym (wrapper-cleared us p) ∙ ap (λ (t : Table). wrapperOf t p) e ∙ wrapper-cleared vs p
+  same-blocks n = ap (λ (u : LogicalUnit). u .blocks) (sym (unit-made us n) ∙ ap (λ (t : Table). unitAt t n) e ∙ unit-made vs n)
 
 -- ---- parts
 

@@ -2,12 +2,16 @@
 use mathlib.Core.Path.{refl}
 use native.Mathlib.Omega.{arith}
 use Rattle.machine.specs.Sheet.{cbw, testUnitReady, onBlocks}
-use Rattle.machine.specs.Witness.{partWrite, WriteCut, test, tries, LockRecovered, askPage, PageCut, RangeRefused}
+use Rattle.machine.specs.Witness.{partWrite, WriteCut, closedWrite, SwitchClosed, test, tries, LockRecovered, askPage, PageCut, RangeRefused}
 use Rattle.machine.proofs.Compute.{computes}
 
 pub write-cut : WriteCut
 unfolding computes cbw onBlocks partWrite
 write-cut = record { makes = refl; acked = refl; configured = refl; held = refl; recovers = refl; arrived = refl; medium = refl }
+
+pub switch-closed : SwitchClosed
+unfolding computes cbw onBlocks closedWrite
+switch-closed = record { acked = refl; configured = refl; closed = refl; none = refl; recovers = refl; medium = refl; keeps = refl; anew = refl }
 
 pub lock-recovered : LockRecovered
 unfolding computes cbw testUnitReady test tries

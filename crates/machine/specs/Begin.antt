@@ -26,7 +26,7 @@ use Rattle.machine.specs.declared.record.Stage.{Stage}
 use Rattle.machine.specs.declared.record.Stage.the-variants.{DataOut, DataIn, ReplyIn, StatusDue}
 use Rattle.machine.specs.declared.record.LogicalUnit.{LogicalUnit}
 use Rattle.machine.specs.declared.record.State.{State}
-use Rattle.machine.specs.Units.{blockSize, withSense}
+use Rattle.machine.specs.Units.{blockSize, withSense, isProtected}
 use Rattle.machine.specs.Record.{moved, task}
 
 -- What the host announces; the direction at length 0 is ignored by the cases themselves.
@@ -56,12 +56,13 @@ ownStatus (Reply k n) = status.Passed
 ownStatus (Read block count) = status.Passed
 ownStatus (Write block count) = status.Passed
 
--- A reply with the values found at the wrapper: "Request Sense sends what it found".
+-- A reply with the values found at the wrapper: "Request Sense sends what it found"; "A change [of the switch] during a command counts from the next wrapper"
+-- (document 02, A4).
 unfoldable pub replyOf : ReplyKind → LogicalUnit → replies.Reply
 replyOf kind.Sense u = reply.Sense (u .sense)
 replyOf kind.Inquiry u = reply.Inquiry
 replyOf (kind.Page p) u = reply.Page p
-replyOf kind.ModeSense u = reply.ModeSense
+replyOf kind.ModeSense u = reply.ModeSense (isProtected u)
 replyOf kind.Capacity u = reply.Capacity (u .blocks)
 
 unfoldable pub dataStage : Plan → LogicalUnit → Stage

@@ -11,7 +11,7 @@ use Rattle.machine.specs.declared.record.Stage.the-variants.{Ready}
 use Rattle.machine.specs.declared.record.Device.{Device}
 use Rattle.machine.specs.declared.answer.Answer.{Answer}
 use Rattle.machine.specs.declared.answer.Answer.the-variants.{Data, Ack, Nak, Stall, Silent, Refused}
-use Rattle.machine.specs.Units.{unitAt, cleared, mediumFits}
+use Rattle.machine.specs.Units.{unitAt, cleared, asMade, mediumFits}
 use Rattle.machine.specs.Wrapper.{accepted, planFor}
 use Rattle.machine.specs.World.{World, world, inState, Out, out}
 use Rattle.machine.specs.Bulk.{lockedState}
@@ -48,13 +48,15 @@ StepLaws = (w : World) (e : Event) → Lawful w (lent e) (step w e)
 
 -- ---- every record reached from a fresh one
 
--- "Every record reached from a fresh one keeps them", and its identity; the table's parts are those that it was made with.
+-- "Every record reached from a fresh one keeps them", and its identity; the table's parts are those that it was made with, and each switch is where the history
+-- has it.
 abbrev pub Reached : Type 0
 Reached =
     (k : Making) → Makes k → (es : List Event)
     → (fitting (lived k es .world) ≡ true)
     × (lived k es .world .dev .identity ≡ k .identity)
-    × (cleared (lived k es .world .units) ≡ born k .units)
+    × (asMade (lived k es .world .units) ≡ born k .units)
+    × (cleared (lived k es .world .units) ≡ history k es .units)
 
 -- Ready for a wrapper, configured, bulk-out not halted.
 pub record IsDue (d : Device) : Type 0 where

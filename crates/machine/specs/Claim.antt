@@ -15,10 +15,11 @@ use Rattle.usb.specs.declared.request.Request.the-variants as request
 use Rattle.machine.specs.declared.answer.Answer.{Answer}
 use Rattle.machine.specs.declared.answer.Answer.the-variants.{Ack, Nak, Stall}
 use Rattle.machine.specs.Answer.{numberOf}
+use Rattle.machine.specs.Units.{unitAt}
 use Rattle.machine.specs.Making.{make}
 use Rattle.machine.specs.Wrapper.{accepted}
 use Rattle.machine.specs.World.{World, world}
-use Rattle.machine.specs.Machine.{Event, busReset, control, bulkOut, bulkIn, Seen, Run, step, run}
+use Rattle.machine.specs.Machine.{Event, busReset, control, bulkOut, bulkIn, setSwitch, Seen, Run, step, run}
 use Rattle.machine.specs.Tally.{Making, Log, start, isAck, noted, observed, stored}
 
 -- ---- a collector's life
@@ -55,6 +56,10 @@ recovery false x y z = control (setup 0x21 0xFF 0 0) x ∷ control (setup 0x02 0
 unfoldable pub settingUp : ℕ → List ℕ → List ℕ → List Event
 settingUp a x y = control (setup 0x00 0x05 a 0) x ∷ control (setup 0x00 0x09 1 0) y ∷ []
 
+-- "the fresh collector has the switch as the history left it" (document 02, A4): it is made, and then set
+unfoldable pub settings : Log → List ℕ → List ℕ → List Event
+settings l x y = settingUp (l .address) x y ++ setSwitch (unitAt (l .units) 0 .switch) ∷ []
+
 -- ---- a wrapper is due on an unhalted pipe
 
 -- A good Test Unit Ready wrapper announcing 0, for one of so many units.
@@ -72,12 +77,12 @@ WrapperDue w =
 abbrev pub anew : Making → Run → Making
 anew k r = record { identity = k .identity; medium = r .world .medium }
 
--- A collector that came to the run r is as that one, given the address a and configured.
-pub record AsFresh (k : Making) (a : ℕ) (r : Run) (x y : List ℕ) : Type 0 where
+-- A collector that came to the run r is as that one, given the history's address, configured, and with the history's switch.
+pub record AsFresh (k : Making) (l : Log) (r : Run) (x y : List ℕ) : Type 0 where
   pub makes : Makes (anew k r)
-  pub sets-up : answers (lived (anew k r) (settingUp a x y) .replies) ≡ (Ack ∷ Ack ∷ [])
-  pub keeps : lived (anew k r) (settingUp a x y) .world .medium ≡ r .world .medium
-  pub further : (fs : List Event) → run (r .world) fs ≡ run (lived (anew k r) (settingUp a x y) .world) fs
+  pub sets-up : answers (lived (anew k r) (settings l x y) .replies) ≡ (Ack ∷ Ack ∷ Ack ∷ [])
+  pub keeps : lived (anew k r) (settings l x y) .world .medium ≡ r .world .medium
+  pub further : (fs : List Event) → run (r .world) fs ≡ run (lived (anew k r) (settings l x y) .world) fs
 
 -- "the medium is the starting one changed by exactly the blocks whose 512 bytes all arrived"
 unfoldable pub MediumFromHistory : Making → List Event → Type 0
@@ -89,7 +94,7 @@ Recovers k es =
     → (order : Bool) (x y z : List ℕ)
     → answers (run (lived k es .world) (recovery order x y z) .replies) ≡ (Ack ∷ Ack ∷ Ack ∷ [])
     → MediumFromHistory k (es ++ recovery order x y z)
-    × ((x′ y′ : List ℕ) → 64 ≤ length x′ → 64 ≤ length y′ → AsFresh k (history k es .address) (lived k (es ++ recovery order x y z)) x′ y′)
+    × ((x′ y′ : List ℕ) → 64 ≤ length x′ → 64 ≤ length y′ → AsFresh k (history k es) (lived k (es ++ recovery order x y z)) x′ y′)
 
 -- ---- the second half: the lock
 
@@ -113,6 +118,7 @@ ends busReset a = isAck a
 ends (control s b) a = isAck a and isDrop (requestOf s)
 ends (bulkOut p) a = false
 ends (bulkIn b) a = false
+ends (setSwitch x) a = false
 
 -- one of 10 to 14; exactly 3, or one of these
 unfoldable pub isRefusal : Answer → Bool
@@ -126,6 +132,7 @@ shutAt busReset a = true
 shutAt (control s b) a = true
 shutAt (bulkOut p) a = isShut a
 shutAt (bulkIn b) a = isShut a
+shutAt (setSwitch x) a = true
 
 -- Whether an acked drop has come, and whether each bulk event was answered so.
 pub record Watch : Type 0 where

@@ -17,4 +17,5 @@ pub mod Largest
 pub mod Sent
 pub mod Sheet
 pub mod RefusedBlock
+pub mod Switch
 pub mod Witness

@@ -4,6 +4,7 @@ use mathlib.Core.Bool.{Bool, true, false}
 use mathlib.Core.List.{List, [], _∷_}
 use lib.Dec.{leb, eqb}
 use lib.ListN.{length}
+use Rattle.wire.specs.Choice.{_and_}
 use Rattle.usb.specs.Request.{requestOf}
 use Rattle.machine.specs.declared.answer.Answer.{Answer}
 use Rattle.machine.specs.declared.answer.Answer.the-variants.{Ack, Silent, Refused}
@@ -12,18 +13,20 @@ use Rattle.machine.specs.declared.checks.Checks.{Checks}
 use Rattle.machine.specs.declared.checks.Verdict.{Verdict}
 use Rattle.machine.specs.declared.checks.Verdict.the-variants.{Passes, Refuses}
 use Rattle.machine.specs.Answer.{numberOf, countOf}
-use Rattle.machine.specs.Units.{mediumFits}
+use Rattle.machine.specs.Units.{switchFits, mediumFits}
 use Rattle.machine.specs.Fits.{fits}
-use Rattle.machine.specs.World.{World, Out, out}
+use Rattle.machine.specs.World.{World, switched, Out, out}
 use Rattle.machine.specs.Control.{reset, perform}
 use Rattle.machine.specs.Bulk.{packetSize, packetOut, packetIn}
 
--- "bus reset, a control request (8 setup bytes), a bulk-out packet, an ask for a bulk-in packet", each with the buffer that it lends.
+-- "bus reset, a control request (8 setup bytes), a bulk-out packet, an ask for a bulk-in packet", each with the buffer that it lends; and "a fifth event", which
+-- sets the write switch to a position (document 02, A4).
 pub data Event : Type 0 where
   busReset : Event
   control : List ℕ → List ℕ → Event
   bulkOut : List ℕ → Event
   bulkIn : List ℕ → Event
+  setSwitch : ℕ → Event
 
 -- The buffer that an event lends; none counts as empty.
 unfoldable pub lent : Event → List ℕ
@@ -31,6 +34,7 @@ lent busReset = []
 lent (control s b) = b
 lent (bulkOut p) = []
 lent (bulkIn b) = b
+lent (setSwitch x) = []
 
 -- ---- the checks, in their order: "10, 11, 12, 13, 14, 4, each only where the event has that input"
 
@@ -59,6 +63,9 @@ checks w (bulkIn b) =
       setup = true;
       configured = w .dev .state .configured;
     }
+-- "all else, in the event too, being number 10" (document 02, A4)
+checks w (setSwitch x) =
+    record { fits = fitting w and switchFits x; medium = true; buffer = true; packet = true; setup = true; configured = true }
 
 -- The answer of the first test that fails, or none.
 unfoldable pub check : Bool → Answer → Verdict → Verdict
@@ -82,6 +89,7 @@ effect w busReset = out Ack (reset w) []
 effect w (control s b) = perform (requestOf s) w b
 effect w (bulkOut p) = packetOut w p
 effect w (bulkIn b) = packetIn w b
+effect w (setSwitch x) = out Ack (switched w x) []
 
 -- A refusal changes nothing.
 unfoldable pub judged : Verdict → World → List ℕ → Out → Out

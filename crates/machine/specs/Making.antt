@@ -25,7 +25,7 @@ mediumServed m = eqb (length m % blockSize) 0 and sizeFits (blocksIn m)
 
 -- The table of a collector of one unit, which has the whole medium.
 abbrev pub oneUnit : ℕ → Table
-oneUnit n = unit 0 n noSense ∷ []
+oneUnit n = unit 0 n noSense 0 ∷ []
 
 pub record Made : Type 0 where
   pub answer : Answer

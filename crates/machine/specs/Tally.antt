@@ -1,4 +1,4 @@
--- What a history says (document 01, "Words of demand 3"): the tally of arrived blocks, and the address and configuration last set.
+-- What a history says (document 01, "Words of demand 3"; document 02, A4): the tally of arrived blocks, and address, configuration and switch as last set.
 -- An observer that is fed the making, the events and the answers, and nothing else.
 use Prim.Native.Nat.{ℕ, _+_, _*_, _-_}
 use mathlib.Core.Bool.{Bool, true, false, not}
@@ -19,11 +19,11 @@ use Rattle.machine.specs.declared.wrapper.Wrapper.{Wrapper}
 use Rattle.machine.specs.declared.wrapper.Wrapper.the-variants.{Broken, Good}
 use Rattle.machine.specs.declared.answer.Answer.{Answer}
 use Rattle.machine.specs.declared.answer.Answer.the-variants.{Data, Ack, Nak, Stall, Silent, Refused}
-use Rattle.machine.specs.Units.{blockSize, Table, unitAt}
+use Rattle.machine.specs.Units.{blockSize, Table, unitAt, switchedTo}
 use Rattle.machine.specs.Making.{make}
 use Rattle.machine.specs.Wrapper.{wrapperOf}
 use Rattle.machine.specs.Bulk.{packetSize}
-use Rattle.machine.specs.Machine.{Event, busReset, control, bulkOut, bulkIn}
+use Rattle.machine.specs.Machine.{Event, busReset, control, bulkOut, bulkIn, setSwitch}
 
 -- What a collector is made of.
 pub record Making : Type 0 where
@@ -45,7 +45,7 @@ pub record Log : Type 0 where
   pub tally : Tally
   pub address : ℕ
   pub configured : Bool
-  -- the table as made
+  -- the table as made, but for the switch: "the tally takes its position from the last acked such event, else as made" (document 02, A4)
   pub units : Table
   pub arrived : List Block
 
@@ -109,6 +109,7 @@ heeded l busReset = log idle 0 false (l .units) (l .arrived)
 heeded l (control s b) = heard (requestOf s) l
 heeded l (bulkOut p) = taken (l .tally) p l
 heeded l (bulkIn b) = l
+heeded l (setSwitch x) = log (l .tally) (l .address) (l .configured) (switchedTo (l .units) x) (l .arrived)
 
 unfoldable pub isAck : Answer → Bool
 isAck (Data n) = false

@@ -3,7 +3,7 @@ use Prim.Native.Nat.{ℕ, _+_, _*_}
 use mathlib.Core.Bool.{Bool, true}
 use mathlib.Core.List.{List, [], _∷_, map}
 use lib.Dec.{leb, ltb, eqb}
-use lib.ListN.{length, take, drop, getD}
+use lib.ListN.{length, take, drop, getD, set}
 use Rattle.wire.specs.Choice.{_and_}
 use Rattle.wire.specs.Slices.{placed}
 use Rattle.scsi.specs.Sense.{noSense}
@@ -22,28 +22,50 @@ sizeFits n = leb 1 n and leb n mostBlocks
 
 -- ---- the table
 
+-- The write switch's position: "0 open (as made) or 1 closed, all else .. being number 10" (document 02, A4)
+unfoldable pub switchFits : ℕ → Bool
+switchFits x = leb x 1
+
 abbrev pub Table : Type 0
 Table = List LogicalUnit
 
-abbrev pub unit : ℕ → ℕ → Sense → LogicalUnit
-unit f n s = record { first = f; blocks = n; sense = s }
+abbrev pub unit : ℕ → ℕ → Sense → ℕ → LogicalUnit
+unit f n s x = record { first = f; blocks = n; sense = s; switch = x }
 
 -- The unit of a number; beyond the table, one without blocks.
 abbrev pub unitAt : Table → ℕ → LogicalUnit
-unitAt us n = getD us n (unit 0 0 noSense)
+unitAt us n = getD us n (unit 0 0 noSense 0)
 
 abbrev pub inTable : ℕ → Table → Bool
 inTable n us = ltb n (length us)
 
 unfoldable pub withSense : LogicalUnit → Sense → LogicalUnit
-withSense u s = unit (u .first) (u .blocks) s
+withSense u s = unit (u .first) (u .blocks) s (u .switch)
 
--- "All command drops clear all senses." (document 02, A7)
+-- "All command drops clear all senses." (document 02, A7) "No reset of any kind moves the switch." (A4)
 abbrev pub unsensed : LogicalUnit → LogicalUnit
-unsensed u = unit (u .first) (u .blocks) noSense
+unsensed u = unit (u .first) (u .blocks) noSense (u .switch)
 
 unfoldable pub cleared : Table → Table
 cleared us = map unsensed us
+
+-- A closed switch protects its unit from being written.
+unfoldable pub isProtected : LogicalUnit → Bool
+isProtected u = eqb (u .switch) 1
+
+-- The switch of unit 0, the one that a collector has, in another position.
+unfoldable pub withSwitch : LogicalUnit → ℕ → LogicalUnit
+withSwitch u x = unit (u .first) (u .blocks) (u .sense) x
+
+unfoldable pub switchedTo : Table → ℕ → Table
+switchedTo us x = set us 0 (withSwitch (unitAt us 0) x)
+
+-- The table as a making leaves one of these parts: every sense zero, every switch open.
+abbrev pub unused : LogicalUnit → LogicalUnit
+unused u = unit (u .first) (u .blocks) noSense 0
+
+unfoldable pub asMade : Table → Table
+asMade us = map unused us
 
 unfoldable pub every : (LogicalUnit → Bool) → Table → Bool
 every test [] = true

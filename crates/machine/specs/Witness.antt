@@ -9,12 +9,13 @@ use Rattle.scsi.specs.Sense.{outOfRange}
 use Rattle.scsi.specs.declared.command.Plan.the-variants.{Failed}
 use Rattle.scsi.specs.declared.page.Page.the-variants.{Serial}
 use Rattle.scsi.specs.declared.reply.ReplyKind.the-variants.{Page}
-use Rattle.machine.specs.declared.answer.Answer.the-variants.{Ack, Stall}
+use Rattle.machine.specs.declared.answer.Answer.the-variants.{Data, Ack, Stall}
+use Rattle.machine.specs.Units.{unitAt}
 use Rattle.machine.specs.Wrapper.{accepted}
 use Rattle.machine.specs.World.{World}
-use Rattle.machine.specs.Machine.{Event, control, bulkOut, bulkIn, step, run}
-use Rattle.machine.specs.Tally.{Making, writing}
-use Rattle.machine.specs.Claim.{answers, Makes, lived, history, setup, recovery, settingUp, WrapperDue, isRefusal, watched}
+use Rattle.machine.specs.Machine.{Event, control, bulkOut, bulkIn, setSwitch, step, run}
+use Rattle.machine.specs.Tally.{Making, idle, writing}
+use Rattle.machine.specs.Claim.{answers, Makes, lived, history, setup, recovery, settingUp, settings, anew, WrapperDue, isRefusal, watched}
 use Rattle.machine.specs.Beside.{Accepts}
 use Rattle.machine.specs.Sheet.{cbw, testUnitReady, onBlocks, buffer}
 use Rattle.machine.specs.Sent.{whole, first, Asks, Takes}
@@ -44,6 +45,31 @@ pub record WriteCut : Type 0 where
   pub recovers : answers (run (lived two partWrite .world) recover .replies) ≡ (Ack ∷ Ack ∷ Ack ∷ [])
   pub arrived : history two (partWrite ++ recover) .arrived ≡ (record { lun = 0; number = 0; bytes = replicate 512 7 } ∷ [])
   pub medium : lived two (partWrite ++ recover) .world .medium ≡ replicate 512 7 ++ zeros 512
+
+-- ---- the switch closed in the middle of a Write (document 02, A4)
+
+-- A Write of both blocks, the switch closed after 64 bytes: it goes on, and passes. The next Write is accepted and fails.
+unfoldable pub closedWrite : List Event
+closedWrite =
+    settingUp 5 buffer buffer
+    ++ bulkOut (cbw 1 1024 0x00 0 (onBlocks 0x2A 0 2))
+    ∷ bulkOut (replicate 64 7)
+    ∷ setSwitch 1
+    ∷ replicate 15 (bulkOut (replicate 64 7))
+    ++ bulkIn buffer
+    ∷ bulkOut (cbw 2 512 0x00 0 (onBlocks 0x2A 0 1))
+    ∷ []
+
+-- The history has the switch closed, both blocks and no write under way; the recovered collector has it closed, and a fresh one is given it.
+pub record SwitchClosed : Type 0 where
+  pub acked : answers (lived two closedWrite .replies) ≡ replicate 20 Ack ++ Data 13 ∷ Ack ∷ []
+  pub configured : history two closedWrite .configured ≡ true
+  pub closed : unitAt (history two closedWrite .units) 0 .switch ≡ 1
+  pub none : history two closedWrite .tally ≡ idle
+  pub recovers : answers (run (lived two closedWrite .world) recover .replies) ≡ (Ack ∷ Ack ∷ Ack ∷ [])
+  pub medium : lived two (closedWrite ++ recover) .world .medium ≡ replicate 1024 7
+  pub keeps : unitAt (lived two (closedWrite ++ recover) .world .units) 0 .switch ≡ 1
+  pub anew : answers (lived (anew two (lived two (closedWrite ++ recover))) (settings (history two closedWrite) buffer buffer) .replies) ≡ (Ack ∷ Ack ∷ Ack ∷ [])
 
 -- ---- a lock, and its end
 

@@ -9,7 +9,7 @@ use Rattle.machine.specs.declared.record.State.{State}
 use Rattle.machine.specs.declared.record.Device.{Device}
 use Rattle.machine.specs.declared.answer.Answer.{Answer}
 use Rattle.machine.specs.declared.answer.Answer.the-variants.{Data}
-use Rattle.machine.specs.Units.{blockSize, Table, unitAt, cleared, partOf, withPart}
+use Rattle.machine.specs.Units.{blockSize, Table, unitAt, cleared, switchedTo, partOf, withPart}
 use Rattle.machine.specs.Record.{device, withState, droppedState}
 
 -- The record, the table of units and the medium.
@@ -28,6 +28,10 @@ inState w s = world (withState (w .dev) s) (w .units) (w .medium)
 -- "Dropping the command": the state, the part block all zeros, every sense 00/00/00.
 unfoldable pub dropped : World → ℕ → Bool → Bool → Bool → World
 dropped w a c hi ho = world (device (w .dev .identity) (droppedState a c hi ho) (zeros blockSize)) (cleared (w .units)) (w .medium)
+
+-- "a fifth event sets it to either" (document 02, A4)
+abbrev pub switched : World → ℕ → World
+switched w x = world (w .dev) (switchedTo (w .units) x) (w .medium)
 
 -- All that an event leaves: its answer, the world, and the buffer that it lent, empty where it lends none.
 pub record Out : Type 0 where

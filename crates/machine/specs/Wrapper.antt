@@ -12,7 +12,7 @@ use Rattle.bot.specs.Cbw.{readable, headerOf}
 use Rattle.machine.specs.declared.record.LogicalUnit.{LogicalUnit}
 use Rattle.machine.specs.declared.wrapper.Wrapper.{Wrapper}
 use Rattle.machine.specs.declared.wrapper.Wrapper.the-variants.{Broken, Good}
-use Rattle.machine.specs.Units.{Table, unitAt}
+use Rattle.machine.specs.Units.{Table, unitAt, isProtected}
 
 -- "To be accepted the unit must be 0 and the block at least as long as its operation code needs"; with a table of so many units, one of them: "a wrapper for a
 -- unit beyond it locks" (document 02, A7).
@@ -22,9 +22,9 @@ accepted count p =
     and ltb (headerOf p .lun) count
     and leb (blockLength (byteAt p 15)) (headerOf p .size)
 
--- What a unit has for a command block: its size counts, its sense does not.
+-- What a unit has for a command block: its size and its switch count, its sense does not.
 abbrev pub planFor : LogicalUnit → List ℕ → Plan
-planFor u b = planOf b (u .blocks)
+planFor u b = planOf b (u .blocks) (isProtected u)
 
 -- The command block is read where it stands, from byte 15 on, for the unit that the wrapper names.
 unfoldable pub wrapperOf : Table → List ℕ → Wrapper

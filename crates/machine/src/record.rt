@@ -8,11 +8,13 @@ use usb::descriptor::Identity;
 // The largest medium, in blocks of 512 bytes (document 02, A5). It has 2^29 bytes, so that a place in it is a u32.
 pub const MOST_BLOCKS: u32 = 1_048_576;
 
-// All that belongs to one logical unit: its part of the medium, from its first block on, and its sense.
+// All that belongs to one logical unit: its part of the medium, from its first block on, its sense and its write switch.
 pub struct LogicalUnit {
     pub first: u32,
     pub blocks: u32,
     pub sense: Sense,
+    // The position: 0 open, 1 closed; no other fits.
+    pub switch: u8,
 }
 
 // How far the command in hand has come.

@@ -15,7 +15,7 @@ use Rattle.machine.specs.declared.record.Device.{Device}
 use Rattle.machine.specs.declared.record.LogicalUnit.{LogicalUnit}
 use Rattle.machine.specs.Answer.{numberOf, countOf}
 use Rattle.machine.specs.World.{World, world, Out, out}
-use Rattle.machine.specs.Machine.{step, Told, told}
+use Rattle.machine.specs.Machine.{setSwitch, step, Told, told}
 use Rattle.recording.specs.declared.cursor.Kind.{Kind}
 use Rattle.recording.specs.Format.{eventOf}
 use Rattle.player.specs.declared.turns.EventResult.{EventResult}
@@ -100,3 +100,7 @@ few-lent r m o w = let l = length-take-le (r .lent) (r .buffer) (w .lent) in let
 -- the event of a kind that is known
 pub ends-as : (r : EventResult) (m : List ℕ) (w : World) (k x : Kind) (s : List ℕ) → k ≡ x → Ends r m (step w (eventOf x s)) → Ends r m (step w (eventOf k s))
 ends-as r m w k x s e v = subst (λ (y : Kind). Ends r m (step w (eventOf y s))) (sym e) v
+
+-- a switch was set to a position that is read from a body
+pub ends-set : (r : EventResult) (m : List ℕ) (w : World) (x y : ℕ) → x ≡ y → Ends r m (step w (setSwitch x)) → Ends r m (step w (setSwitch y))
+ends-set r m w x y e v = subst (λ (z : ℕ). Ends r m (step w (setSwitch z))) e v

@@ -14,7 +14,7 @@ use Rattle.machine.specs.Claim.{born, lived}
 use Rattle.machine.specs.Beside.{Lawful, unchanged, stalled, locked, handed, acked}
 use Rattle.machine.proofs.StepLaws.{step-laws}
 use Rattle.recording.specs.declared.cursor.Kind.{Kind}
-use Rattle.recording.specs.declared.cursor.Kind.the-variants.{Reset, Control, Out as outward, Ask, Malformed}
+use Rattle.recording.specs.declared.cursor.Kind.the-variants.{Reset, Control, Out as outward, Ask, Switch, Malformed}
 use Rattle.recording.specs.Format.{kindIn, lengthIn, eventOf, eventsIn, countOf, tableOf, bodiesOf, isFormed, Parsed}
 use Rattle.recording.proofs.Parses.{parse-bad, parse-good, sound}
 use Rattle.printout.specs.Print.{line, lines, heading}
@@ -38,6 +38,7 @@ lends Reset s = omega arith
 lends Control s = let n = length-zeros 64 in omega arith
 lends outward s = omega arith
 lends Ask s = let n = length-zeros 64 in omega arith
+lends Switch s = omega arith
 lends Malformed s = omega arith
 
 short : (w : World) (k : Kind) (s : List ℕ) → length (step w (eventOf k s) .buffer) ≤ 64
@@ -47,9 +48,9 @@ lines-most : (n : ℕ) (t b : List ℕ) (w : World) (k : ℕ) → length (lines 
 unfolding eventsIn run lines
 lines-most zero t b w k = omega arith
 lines-most (suc n) t b w k =
-    let e = eventOf (kindIn t) (take (lengthIn t) b) in
+    let e = eventOf (kindIn t b) (take (lengthIn t) b) in
     let o = step w e in
-    let h = line-length k (o .answer) (o .buffer) (short w (kindIn t) (take (lengthIn t) b)) in
+    let h = line-length k (o .answer) (o .buffer) (short w (kindIn t b) (take (lengthIn t) b)) in
     let r = lines-most n (drop 4 t) (drop (lengthIn t) b) (o .world) (k + 1) in
     let a = length-append (line k (o .answer) (o .buffer)) (lines (k + 1) (run (o .world) (eventsIn n (drop 4 t) (drop (lengthIn t) b)) .replies)) in
     omega arith

@@ -2,12 +2,14 @@
 ghost use mathlib.Core.List.{List, [], _∷_};
 ghost use Prim.Native.Nat.{ℕ, _+_, _≤_, _<_};
 ghost use lib.ListN.{length, take, drop};
+ghost use Rattle.wire.specs.Slices.{byteAt};
 ghost use Rattle.machine.specs.World.{world};
-ghost use Rattle.machine.specs.Machine.{step, busReset, control, bulkOut, bulkIn};
+ghost use Rattle.machine.specs.Machine.{step, busReset, control, bulkOut, bulkIn, setSwitch};
 ghost use Rattle.recording.specs.Format.{lentBuffer, eventOf};
 ghost use Rattle.player.specs.Turns.{Ends, worldOf, Turned};
 use bulk::parts::in_parts;
 use bulk::parts::out_parts;
+use collector::switch::switch_parts;
 use control::parts::control_parts;
 use control::parts::reset_parts;
 use machine::answer::Answer;
@@ -16,6 +18,7 @@ use machine::record::LogicalUnit;
 use printout::print::line;
 use recording::cursor::Kind;
 use recording::cursor::Reading;
+use wire::slices::byte;
 
 // What an event leaves: its answer, the record and its unit, and of the buffer that it was lent the first `lent` bytes.
 struct EventResult {
@@ -110,6 +113,23 @@ fn ask(mut device: Device, unit: LogicalUnit, medium: &[u8]) -> EventResult
     }
 }
 
+fn switch(mut device: Device, unit: LogicalUnit, body: &[u8]) -> EventResult
+    ensures { λ r. ⌜ ((m : List ℕ) → Ends r m (step (world device (unit ∷ []) m) (setSwitch (byteAt (now (body .entry)) 0)))) ⌝ }
+{
+    let moved = switch_parts(device.identity, device.state, unit, byte(body, 0));
+    let answer = moved.answer;
+    let next = moved.state;
+    let after = moved.unit;
+    device.state = next;
+    EventResult {
+        answer,
+        device,
+        unit: after,
+        buffer: [0; 64],
+        lent: 0,
+    }
+}
+
 fn event(
     device: Device,
     unit: LogicalUnit,
@@ -124,6 +144,7 @@ fn event(
         Kind::Control => request(device, unit, body),
         Kind::Out => packet(device, unit, body, medium),
         Kind::Ask => ask(device, unit, medium),
+        Kind::Switch => switch(device, unit, body),
         Kind::Malformed => reset(device, unit),
     }
 }

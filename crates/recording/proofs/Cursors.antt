@@ -15,7 +15,7 @@ use Rattle.wire.specs.Numbers.{little}
 use Rattle.wire.proofs.Cases.{if-true, if-false, by-if, both, and-true, and-false}
 use Rattle.recording.specs.declared.cursor.Reading.{Reading}
 use Rattle.recording.specs.declared.cursor.Kind.{Kind}
-use Rattle.recording.specs.declared.cursor.Kind.the-variants.{Reset, Control, Out, Ask, Malformed}
+use Rattle.recording.specs.declared.cursor.Kind.the-variants.{Reset, Control, Out, Ask, Switch, Malformed}
 use Rattle.recording.specs.Format.{kindOf, kindIn, lengthIn, isKind, formed, eventOf, eventsIn}
 use Rattle.recording.specs.Cursor.{reading, readAt, kindNumber, Numbered, numbered}
 
@@ -24,12 +24,15 @@ unfolding bytesAt
 bytes-drop zero i e s = refl
 bytes-drop (suc n) i e s = ap₂ _∷_ (getD-drop e s i 0) (bytes-drop n (i + 1) e s ∙ ap (λ (k : ℕ). bytesAt n k s) (sym (add-assoc e i 1)))
 
--- an entry's length and kind, by its place
+-- an entry's length, by its place; a body's first byte; the kind, by both places
 pub length-place : (s : List ℕ) (e : ℕ) → lengthIn (drop e s) ≡ little (bytesAt 2 (e + 2) s)
 length-place s e = ap little (bytes-drop 2 2 e s)
 
-pub kind-place : (s : List ℕ) (e : ℕ) → kindIn (drop e s) ≡ kindOf (byteAt s e) (byteAt s (e + 1)) (little (bytesAt 2 (e + 2) s))
-kind-place s e = λ i. kindOf ((getD-drop e s 0 0 ∙ ap (λ (k : ℕ). getD s k 0) (add-zero e)) i) (getD-drop e s 1 0 i) (length-place s e i)
+pub first-place : (s : List ℕ) (b : ℕ) → byteAt (drop b s) 0 ≡ byteAt s b
+first-place s b = getD-drop b s 0 0 ∙ ap (λ (k : ℕ). getD s k 0) (add-zero b)
+
+pub kind-place : (s : List ℕ) (e b : ℕ) → kindIn (drop e s) (drop b s) ≡ kindOf (byteAt s e) (byteAt s (e + 1)) (little (bytesAt 2 (e + 2) s)) (byteAt s b)
+kind-place s e b = λ i. kindOf (first-place s e i) (getD-drop e s 1 0 i) (length-place s e i) (first-place s b i)
 
 pub read-short : (s : List ℕ) (e b : ℕ) → length s < e + 4 → readAt s e b ≡ reading Malformed 0 e b
 unfolding readAt _and_
@@ -41,24 +44,25 @@ read-over s e b h =
     if-false _ _ _ (ap (λ (t : Bool). leb (e + 4) (length s) and t) (ap (λ (n : ℕ). leb (b + n) (length s)) (length-place s e) ∙ lt-leb _ _ h) ∙ and-false _)
 
 pub read-yes : (s : List ℕ) (e b : ℕ) → e + 4 ≤ length s → b + little (bytesAt 2 (e + 2) s) ≤ length s
-    → readAt s e b ≡ reading (kindIn (drop e s)) (lengthIn (drop e s)) (e + 4) (b + lengthIn (drop e s))
+    → readAt s e b ≡ reading (kindIn (drop e s) (drop b s)) (lengthIn (drop e s)) (e + 4) (b + lengthIn (drop e s))
 unfolding readAt
 read-yes s e b h k =
     if-true _ _ _ (and-true _ _ (le-leb _ _ h) (ap (λ (n : ℕ). leb (b + n) (length s)) (length-place s e) ∙ le-leb _ _ k))
 
 -- what the reader finds, by its parts
-pub found : (s : List ℕ) (e b k l n : ℕ) → k ≡ byteAt s e → l ≡ byteAt s (e + 1) → n ≡ little (bytesAt 2 (e + 2) s) → e + 4 ≤ length s → b + n ≤ length s
-    → reading (kindOf k l n) n (e + 4) (b + n) ≡ readAt s e b
-found s e b k l n x y z h i =
-    (λ j. reading (kindOf (x j) (y j) (z j)) (z j) (e + 4) (b + z j))
+pub found : (s : List ℕ) (e b k l n p : ℕ) → k ≡ byteAt s e → l ≡ byteAt s (e + 1) → n ≡ little (bytesAt 2 (e + 2) s) → p ≡ byteAt s b → e + 4 ≤ length s → b + n ≤ length s
+    → reading (kindOf k l n p) n (e + 4) (b + n) ≡ readAt s e b
+found s e b k l n p x y z w h i =
+    (λ j. reading (kindOf (x j) (y j) (z j) (w j)) (z j) (e + 4) (b + z j))
     ∙ sym
     (read-yes s e b h (rw z at i)
-    ∙ (λ j. reading (kind-place s e j) (length-place s e j) (e + 4) (b + length-place s e j)))
+    ∙ (λ j. reading (kind-place s e b j) (length-place s e j) (e + 4) (b + length-place s e j)))
 
 -- ---- a reading is told by its number
 
 abbrev kindFrom : ℕ → Kind
-kindFrom n = if eqb n 1 then Reset else (if eqb n 2 then Control else (if eqb n 3 then Out else (if eqb n 4 then Ask else Malformed)))
+kindFrom n =
+    if eqb n 1 then Reset else (if eqb n 2 then Control else (if eqb n 3 then Out else (if eqb n 4 then Ask else (if eqb n 5 then Switch else Malformed))))
 
 kind-back : (k : Kind) → kindFrom (kindNumber k) ≡ k
 unfolding if_then_else_
@@ -66,6 +70,7 @@ kind-back Reset = refl
 kind-back Control = refl
 kind-back Out = refl
 kind-back Ask = refl
+kind-back Switch = refl
 kind-back Malformed = refl
 
 abbrev readingFrom : Numbered → Reading
@@ -104,7 +109,7 @@ formed-first n s e b h k =
     let u = over s e b h f in
     let l = length-drop b s in
     let fits : leb (lengthIn (drop e s)) (length (drop b s)) ≡ false = lt-leb (lengthIn (drop e s)) (length (drop b s)) (omega arith) in
-    rw fits (and-false (isKind (kindIn (drop e s)))))
+    rw fits (and-false (isKind (kindIn (drop e s) (drop b s)))))
 
 pub formed-step : (n : ℕ) (s : List ℕ) (e b : ℕ) → 0 < n → e + 4 * n ≤ length s → b ≤ length s
     → formed n (drop e s) (drop b s) ≡ (isKind (readAt s e b .kind) and formed (n - 1) (drop (readAt s e b .entry) s) (drop (readAt s e b .body) s))
@@ -118,7 +123,7 @@ pub record Moved (s : List ℕ) (e b : ℕ) (r : Reading) : Type 0 where
   pub entry : r .entry ≡ e + 4
   pub body : r .body ≡ b + r .len
   pub within : r .body ≤ length s
-  pub kind : r .kind ≡ kindIn (drop e s)
+  pub kind : r .kind ≡ kindIn (drop e s) (drop b s)
   pub len : r .len ≡ lengthIn (drop e s)
 
 pub moved : (s : List ℕ) (e b : ℕ) → isKind (readAt s e b .kind) ≡ true → Moved s e b (readAt s e b)

@@ -1,4 +1,4 @@
--- A recording's format (document 01, "The bench recording").
+-- A recording's format (document 01, "The bench recording"; document 02, A4).
 use Prim.Native.Nat.{ℕ, zero, suc, _+_, _*_, _≤_}
 use mathlib.Core.Path.{_≡_}
 use mathlib.Core.Bool.{Bool, true, false}
@@ -8,9 +8,10 @@ use lib.ListN.{length, take, drop}
 use Rattle.wire.specs.Choice.{if_then_else_, _and_}
 use Rattle.wire.specs.Slices.{byteAt, bytesAt, zeros}
 use Rattle.wire.specs.Numbers.{little, littleBytes}
-use Rattle.machine.specs.Machine.{Event, busReset, control, bulkOut, bulkIn}
+use Rattle.machine.specs.Units.{switchFits}
+use Rattle.machine.specs.Machine.{Event, busReset, control, bulkOut, bulkIn, setSwitch}
 use Rattle.recording.specs.declared.cursor.Kind.{Kind}
-use Rattle.recording.specs.declared.cursor.Kind.the-variants.{Reset, Control, Out, Ask, Malformed}
+use Rattle.recording.specs.declared.cursor.Kind.the-variants.{Reset, Control, Out, Ask, Switch, Malformed}
 
 -- "at most 16,384 bytes", "a count (two bytes, at most 1,024)"
 abbrev pub mostBytes : ℕ
@@ -21,15 +22,17 @@ mostEvents = 1024
 
 -- ---- an entry of the table of contents: "four bytes an event (kind, 00, length)"
 
--- "Kinds: 1 bus reset (length 0), 2 control (8), 3 bulk-out (0 to 64), 4 bulk-in ask (0). Anything else .. is 16"
-unfoldable pub kindOf : ℕ → ℕ → ℕ → Kind
-kindOf first second n =
+-- "Kinds: 1 bus reset (length 0), 2 control (8), 3 bulk-out (0 to 64), 4 bulk-in ask (0). Anything else .. is 16";
+-- "The bench recording gains kind 5, with one body byte 00 or 01" (document 02, A4): the last number is the body's first byte.
+unfoldable pub kindOf : ℕ → ℕ → ℕ → ℕ → Kind
+kindOf first second n position =
     if eqb second 0
     then (if eqb first 1 then (if eqb n 0 then Reset else Malformed)
     else (if eqb first 2 then (if eqb n 8 then Control else Malformed)
     else (if eqb first 3 then (if leb n 64 then Out else Malformed)
     else (if eqb first 4 then (if eqb n 0 then Ask else Malformed)
-    else Malformed))))
+    else (if eqb first 5 then (if eqb n 1 and switchFits position then Switch else Malformed)
+    else Malformed)))))
     else Malformed
 
 abbrev pub isKind : Kind → Bool
@@ -37,14 +40,15 @@ isKind Reset = true
 isKind Control = true
 isKind Out = true
 isKind Ask = true
+isKind Switch = true
 isKind Malformed = false
 
--- The body's length and the kind that the first entry of a table gives.
+-- The body's length that the first entry of a table gives, and the kind that it gives with the bodies.
 abbrev pub lengthIn : List ℕ → ℕ
 lengthIn table = little (bytesAt 2 2 table)
 
-abbrev pub kindIn : List ℕ → Kind
-kindIn table = kindOf (byteAt table 0) (byteAt table 1) (lengthIn table)
+abbrev pub kindIn : List ℕ → List ℕ → Kind
+kindIn table bodies = kindOf (byteAt table 0) (byteAt table 1) (lengthIn table) (byteAt bodies 0)
 
 -- ---- the whole
 
@@ -52,7 +56,7 @@ kindIn table = kindOf (byteAt table 0) (byteAt table 1) (lengthIn table)
 unfoldable pub formed : ℕ → List ℕ → List ℕ → Bool
 formed zero table bodies = eqb (length bodies) 0
 formed (suc n) table bodies =
-    isKind (kindIn table)
+    isKind (kindIn table bodies)
     and leb (lengthIn table) (length bodies)
     and formed n (drop 4 table) (drop (lengthIn table) bodies)
 
@@ -66,12 +70,13 @@ eventOf Reset s = busReset
 eventOf Control s = control s lentBuffer
 eventOf Out s = bulkOut s
 eventOf Ask s = bulkIn lentBuffer
+eventOf Switch s = setSwitch (byteAt s 0)
 eventOf Malformed s = busReset
 
 unfoldable pub eventsIn : ℕ → List ℕ → List ℕ → List Event
 eventsIn zero table bodies = []
 eventsIn (suc n) table bodies =
-    eventOf (kindIn table) (take (lengthIn table) bodies) ∷ eventsIn n (drop 4 table) (drop (lengthIn table) bodies)
+    eventOf (kindIn table bodies) (take (lengthIn table) bodies) ∷ eventsIn n (drop 4 table) (drop (lengthIn table) bodies)
 
 abbrev pub countOf : List ℕ → ℕ
 countOf s = little (bytesAt 2 0 s)
@@ -104,12 +109,14 @@ numberOfKind busReset = 1
 numberOfKind (control s b) = 2
 numberOfKind (bulkOut p) = 3
 numberOfKind (bulkIn b) = 4
+numberOfKind (setSwitch x) = 5
 
 abbrev pub bodyOf : Event → List ℕ
 bodyOf busReset = []
 bodyOf (control s b) = s
 bodyOf (bulkOut p) = p
 bodyOf (bulkIn b) = []
+bodyOf (setSwitch x) = x ∷ []
 
 unfoldable pub table : List Event → List ℕ
 table [] = []
@@ -122,12 +129,13 @@ bodies (e ∷ es) = bodyOf e ++ bodies es
 unfoldable pub written : List Event → List ℕ
 written es = littleBytes 2 (length es) ++ table es ++ bodies es
 
--- What a recording can hold: a setup of 8 bytes, a packet of at most 64, and the player's lent buffer.
+-- What a recording can hold: a setup of 8 bytes, a packet of at most 64, a position that the switch has, and the player's lent buffer.
 abbrev pub Recordable : Event → Type 0
 Recordable busReset = Unit
 Recordable (control s b) = (length s ≡ 8) × (b ≡ lentBuffer)
 Recordable (bulkOut p) = length p ≤ 64
 Recordable (bulkIn b) = b ≡ lentBuffer
+Recordable (setSwitch x) = switchFits x ≡ true
 
 unfoldable pub AllRecordable : List Event → Type 0
 AllRecordable [] = Unit

@@ -11,7 +11,8 @@ pub enum Kind {
     Control,
     Out,
     Ask,
-    // No kind that a recording has, or a length that the kind does not have.
+    Switch,
+    // No kind that a recording has, or a length or a position that the kind does not have.
     Malformed,
 }
 
@@ -23,9 +24,9 @@ pub struct Reading {
     pub body: usize,
 }
 
-// The kind that the first two bytes of an entry and its length name.
-fn kind_of(first: u8, second: u8, len: usize) -> Kind
-    ensures { λ r. ⌜ r ≡ kindOf first second len ⌝ }
+// The kind that the first two bytes of an entry and its length name, with the body's first byte: a switch's position.
+fn kind_of(first: u8, second: u8, len: usize, position: u8) -> Kind
+    ensures { λ r. ⌜ r ≡ kindOf first second len position ⌝ }
 {
     if second != 0 {
         return Kind::Malformed;
@@ -51,6 +52,15 @@ fn kind_of(first: u8, second: u8, len: usize) -> Kind
     if first == 4 {
         if len == 0 {
             return Kind::Ask;
+        }
+        return Kind::Malformed;
+    }
+    if first == 5 {
+        if len != 1 {
+            return Kind::Malformed;
+        }
+        if position <= 1 {
+            return Kind::Switch;
         }
         return Kind::Malformed;
     }
@@ -86,7 +96,7 @@ pub fn read_at(s: &[u8], entry: usize, body: usize) -> Reading
     if s.len() - body < len {
         return stopped(entry, body);
     }
-    let kind = kind_of(byte(s, entry), byte(s, entry + 1), len);
+    let kind = kind_of(byte(s, entry), byte(s, entry + 1), len, byte(s, body));
     Reading {
         kind,
         len,

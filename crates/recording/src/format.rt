@@ -16,6 +16,7 @@ fn is_kind(kind: Kind) -> bool
         Kind::Control => true,
         Kind::Out => true,
         Kind::Ask => true,
+        Kind::Switch => true,
         Kind::Malformed => false,
     }
 }

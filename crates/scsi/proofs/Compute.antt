@@ -5,10 +5,10 @@ use Rattle.wire.specs.Numbers.{low, value, decimal}
 use Rattle.wire.specs.Texts.{padded}
 use Rattle.wire.specs.Bits.{bits, clear}
 use Rattle.scsi.specs.Sense.{isNoSense, isOutOfRange}
-use Rattle.scsi.specs.Command.{cut, paged, inquired, firstOutside, within, commands, commandOf, blockLength, planBy, controlClear, planOf}
+use Rattle.scsi.specs.Command.{cut, paged, inquired, firstOutside, within, unlessProtected, commands, commandOf, blockLength, planBy, controlClear, planOf}
 use Rattle.scsi.specs.Page.{pages, pageOf, vendorBased, pageBody, pageData}
 use Rattle.scsi.specs.Reply.{fixedFormat, senseData, inquiryData, modeData, capacityData}
 
 unfoldable pub scsi-computes : Unit {0}
-unfolding if_then_else_ _and_ look bytesAt zeros low value decimal bits clear isNoSense isOutOfRange cut paged inquired firstOutside within commands commandOf blockLength planBy controlClear planOf pages pageOf vendorBased pageBody pageData fixedFormat senseData padded inquiryData modeData capacityData
+unfolding if_then_else_ _and_ look bytesAt zeros low value decimal bits clear isNoSense isOutOfRange cut paged inquired firstOutside within unlessProtected commands commandOf blockLength planBy controlClear planOf pages pageOf vendorBased pageBody pageData fixedFormat senseData padded inquiryData modeData capacityData
 scsi-computes = tt

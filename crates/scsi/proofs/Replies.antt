@@ -38,7 +38,7 @@ unfolding fixedFormat inquiryData padded modeData capacityData zeros low
 sizes n (reply.Sense s) = by-format (λ (d : List ℕ). length d ≡ 18) s (λ code information h. refl)
 sizes n reply.Inquiry = refl
 sizes n (reply.Page p) = page-length n p
-sizes n reply.ModeSense = refl
+sizes n (reply.ModeSense protected) = refl
 sizes n (reply.Capacity blocks) = refl
 
 -- a reply is not empty, and at most one packet
@@ -64,5 +64,5 @@ unfolding fixedFormat inquiryData padded modeData capacityData pageData zeros lo
 reply-opens n (reply.Sense s) l e = by-format (λ (d : List ℕ). byteAt d 0 ≡ 0x55 → ⊥) s (λ code information h x. omega arith) e
 reply-opens n reply.Inquiry l e = omega arith
 reply-opens n (reply.Page p) l e = omega arith
-reply-opens n reply.ModeSense l e = omega arith
+reply-opens n (reply.ModeSense protected) l e = omega arith
 reply-opens n (reply.Capacity blocks) l e = omega arith

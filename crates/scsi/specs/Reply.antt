@@ -1,5 +1,6 @@
--- The bytes of the replies, and how many they are (document 01, "Commands"; document 02, A2 and A8).
+-- The bytes of the replies, and how many they are (document 01, "Commands"; document 02, A2, A4 and A8).
 use Prim.Native.Nat.{ℕ, _-_}
+use mathlib.Core.Bool.{Bool}
 use mathlib.Core.List.{List, [], _∷_, _++_}
 use Rattle.wire.specs.Choice.{if_then_else_}
 use Rattle.wire.specs.Numbers.{bigBytes}
@@ -31,9 +32,9 @@ inquiryData =
     ++ padded 16 productText
     ++ ascii "0100"
 
--- Mode parameter header (SPC-3, 7.4.3).
-unfoldable pub modeData : List ℕ
-modeData = 0x03 ∷ 0x00 ∷ 0x00 ∷ 0x00 ∷ []
+-- Mode parameter header (SPC-3, 7.4.3): "Mode Sense then shows 80 hex in its third byte" (document 02, A4), the bit WP (SBC-2, 6.3.1).
+unfoldable pub modeData : Bool → List ℕ
+modeData protected = 0x03 ∷ 0x00 ∷ (if protected then 0x80 else 0x00) ∷ 0x00 ∷ []
 
 -- READ CAPACITY (10) data (SBC-2, 5.10): "last block, then 512".
 unfoldable pub capacityData : ℕ → List ℕ
@@ -44,7 +45,7 @@ abbrev pub replyData : ℕ → Reply → List ℕ
 replyData number (reply.Sense s) = senseData s
 replyData number reply.Inquiry = inquiryData
 replyData number (reply.Page p) = pageData number p
-replyData number reply.ModeSense = modeData
+replyData number (reply.ModeSense protected) = modeData protected
 replyData number (reply.Capacity blocks) = capacityData blocks
 
 unfoldable pub replyPacket : ℕ → Reply → Packet
@@ -54,7 +55,7 @@ abbrev pub kindOf : Reply → ReplyKind
 kindOf (reply.Sense s) = kind.Sense
 kindOf reply.Inquiry = kind.Inquiry
 kindOf (reply.Page p) = kind.Page p
-kindOf reply.ModeSense = kind.ModeSense
+kindOf (reply.ModeSense protected) = kind.ModeSense
 kindOf (reply.Capacity blocks) = kind.Capacity
 
 -- How long the whole is; that it is so, whatever the values and the number, is `Sizes` in Claims.antt.

@@ -1,4 +1,4 @@
--- Sense (SPC-3, 4.5; document 01, "Commands"; document 02, A8): key, additional code, qualifier, and the information that a range failure has.
+-- Sense (SPC-3, 4.5; document 01, "Commands"; document 02, A4 and A8): key, additional code, qualifier, and the information that a range failure has.
 -- Each value is named once.
 use Prim.Native.Nat.{ℕ, _<_}
 use mathlib.Core.Bool.{Bool}
@@ -21,6 +21,10 @@ invalidField = sense 0x05 0x24 0x00
 -- "A range failure's sense now also carries the first block outside the unit" (document 02, A8)
 abbrev pub outOfRange : ℕ → Sense
 outOfRange block = record { key = 0x05; asc = 0x21; ascq = 0x00; information = block }
+
+-- "A Write with the switch closed fails 07/27/00" (document 02, A4)
+abbrev pub writeProtected : Sense
+writeProtected = sense 0x07 0x27 0x00
 
 abbrev pub dataPhase : Sense
 dataPhase = sense 0x0B 0x4B 0x00

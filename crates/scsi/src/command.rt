@@ -1,6 +1,9 @@
-// The command reader: a command block, read where it stands, and the number of blocks give what the device has for it.
+// The command reader: a command block, read where it stands, the number of blocks and the write protection
+// give what the device has for it.
+ghost use Prim.Native.Nat.{ℕ};
 ghost use mathlib.Core.Path.{_≡_};
-ghost use Rattle.scsi.specs.Command.{blockLength, controlClear, planOf, planBy, allocation, cut, paged, firstOutside, rangedOf};
+ghost use mathlib.Core.Bool.{Bool};
+ghost use Rattle.scsi.specs.Command.{blockLength, controlClear, planOf, planBy, allocation, cut, paged, firstOutside, unlessProtected, rangedOf};
 ghost use Rattle.scsi.specs.Page.{pageOf};
 ghost use Rattle.scsi.specs.Command.{requestSense, inquiry, modeSense, preventAllow, read10, write10, verify10};
 use crate::page::Listed;
@@ -48,8 +51,8 @@ fn is_control_clear(block: &[u8]) -> bool
     byte(block, (size - 1) as usize) & 0x07 == 0
 }
 
-pub fn plan_of(block: &[u8], blocks: u32) -> Plan
-    ensures { λ r. ⌜ r ≡ planOf (now (block .entry)) blocks ⌝ }
+pub fn plan_of(block: &[u8], blocks: u32, protected: bool) -> Plan
+    ensures { λ r. ⌜ r ≡ planOf (now (block .entry)) blocks protected ⌝ }
 {
     if !is_control_clear(block) {
         return Plan::Failed(Sense::INVALID_FIELD);
@@ -57,16 +60,16 @@ pub fn plan_of(block: &[u8], blocks: u32) -> Plan
     let code = byte(block, 0);
     match code {
         0x00 => Plan::Nothing,
-        0x03 => request_sense(block, blocks),
-        0x12 => inquiry(block, blocks),
-        0x1A => mode_sense(block, blocks),
-        0x1E => prevent_allow(block, blocks),
+        0x03 => request_sense(block),
+        0x12 => inquiry(block),
+        0x1A => mode_sense(block),
+        0x1E => prevent_allow(block),
         0x25 => Plan::Reply {
             kind: ReplyKind::Capacity,
             size: 8,
         },
         0x28 => read10(block, blocks),
-        0x2A => write10(block, blocks),
+        0x2A => write10(block, blocks, protected),
         0x2F => verify10(block, blocks),
         _ => Plan::Failed(Sense::INVALID_CODE),
     }
@@ -108,6 +111,16 @@ fn first_outside(address: u32, blocks: u32) -> u32
     if address < blocks { blocks } else { address }
 }
 
+// What a unit has for a Write, if it is not write protected.
+fn unless_protected(protected: bool, given: Plan) -> Plan
+    ensures { λ r. ⌜ r ≡ unlessProtected protected given ⌝ }
+{
+    if protected {
+        return Plan::Failed(Sense::WRITE_PROTECTED);
+    }
+    given
+}
+
 // A command on blocks has what is given, if its flags are clear and its blocks lie in the unit.
 // The sum is taken in 64 bits: it may pass the largest u32.
 fn ranged(block: &[u8], blocks: u32, given: Plan) -> Plan
@@ -124,8 +137,8 @@ fn ranged(block: &[u8], blocks: u32, given: Plan) -> Plan
     given
 }
 
-fn request_sense(block: &[u8], blocks: u32) -> Plan
-    ensures { λ r. ⌜ r ≡ planBy requestSense blocks (now (block .entry)) ⌝ }
+fn request_sense(block: &[u8]) -> Plan
+    ensures { λ r. ⌜ ((n : ℕ) (p : Bool) → r ≡ planBy requestSense n p (now (block .entry))) ⌝ }
 {
     if byte(block, 1) & 0x01 != 0 {
         return Plan::Failed(Sense::INVALID_FIELD);
@@ -134,8 +147,8 @@ fn request_sense(block: &[u8], blocks: u32) -> Plan
 }
 
 // With EVPD set a page, else the standard data.
-fn inquiry(block: &[u8], blocks: u32) -> Plan
-    ensures { λ r. ⌜ r ≡ planBy inquiry blocks (now (block .entry)) ⌝ }
+fn inquiry(block: &[u8]) -> Plan
+    ensures { λ r. ⌜ ((n : ℕ) (p : Bool) → r ≡ planBy inquiry n p (now (block .entry))) ⌝ }
 {
     let evpd = byte(block, 1) & 0x01;
     let code = byte(block, 2);
@@ -149,8 +162,8 @@ fn inquiry(block: &[u8], blocks: u32) -> Plan
     cut(ReplyKind::Inquiry, allocated)
 }
 
-fn mode_sense(block: &[u8], blocks: u32) -> Plan
-    ensures { λ r. ⌜ r ≡ planBy modeSense blocks (now (block .entry)) ⌝ }
+fn mode_sense(block: &[u8]) -> Plan
+    ensures { λ r. ⌜ ((n : ℕ) (p : Bool) → r ≡ planBy modeSense n p (now (block .entry))) ⌝ }
 {
     if byte(block, 2) != 0x3F {
         return Plan::Failed(Sense::INVALID_FIELD);
@@ -158,8 +171,8 @@ fn mode_sense(block: &[u8], blocks: u32) -> Plan
     reply(ReplyKind::ModeSense, block)
 }
 
-fn prevent_allow(block: &[u8], blocks: u32) -> Plan
-    ensures { λ r. ⌜ r ≡ planBy preventAllow blocks (now (block .entry)) ⌝ }
+fn prevent_allow(block: &[u8]) -> Plan
+    ensures { λ r. ⌜ ((n : ℕ) (p : Bool) → r ≡ planBy preventAllow n p (now (block .entry))) ⌝ }
 {
     if byte(block, 4) & 0x01 != 0 {
         return Plan::Failed(Sense::INVALID_FIELD);
@@ -168,7 +181,7 @@ fn prevent_allow(block: &[u8], blocks: u32) -> Plan
 }
 
 fn read10(block: &[u8], blocks: u32) -> Plan
-    ensures { λ r. ⌜ r ≡ planBy read10 blocks (now (block .entry)) ⌝ }
+    ensures { λ r. ⌜ ((p : Bool) → r ≡ planBy read10 blocks p (now (block .entry))) ⌝ }
 {
     ranged(
         block,
@@ -180,21 +193,19 @@ fn read10(block: &[u8], blocks: u32) -> Plan
     )
 }
 
-fn write10(block: &[u8], blocks: u32) -> Plan
-    ensures { λ r. ⌜ r ≡ planBy write10 blocks (now (block .entry)) ⌝ }
+// The range comes first: a protected unit has its sense for a Write in the place of the Write.
+fn write10(block: &[u8], blocks: u32, protected: bool) -> Plan
+    ensures { λ r. ⌜ r ≡ planBy write10 blocks protected (now (block .entry)) ⌝ }
 {
-    ranged(
-        block,
-        blocks,
-        Plan::Write {
-            block: be32(block, 2),
-            count: be16(block, 7),
-        },
-    )
+    let write = Plan::Write {
+        block: be32(block, 2),
+        count: be16(block, 7),
+    };
+    ranged(block, blocks, unless_protected(protected, write))
 }
 
 fn verify10(block: &[u8], blocks: u32) -> Plan
-    ensures { λ r. ⌜ r ≡ planBy verify10 blocks (now (block .entry)) ⌝ }
+    ensures { λ r. ⌜ ((p : Bool) → r ≡ planBy verify10 blocks p (now (block .entry))) ⌝ }
 {
     if byte(block, 1) & 0x02 != 0 {
         return Plan::Failed(Sense::INVALID_FIELD);

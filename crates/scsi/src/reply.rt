@@ -2,7 +2,7 @@
 // for, those of a page of the collector number, which never changes.
 ghost use mathlib.Core.Path.{_≡_};
 ghost use Prim.Native.Nat.{_-_};
-ghost use Rattle.scsi.specs.Reply.{kindOf, replySize, replyPacket, fixedFormat, senseData, inquiryData, capacityData};
+ghost use Rattle.scsi.specs.Reply.{kindOf, replySize, replyPacket, fixedFormat, senseData, inquiryData, modeData, capacityData};
 use crate::page::Page;
 use crate::page::page_bytes;
 use crate::page::page_size;
@@ -26,7 +26,7 @@ pub enum Reply {
     Sense(Sense),
     Inquiry,
     Page(Page),
-    ModeSense,
+    ModeSense { protected: bool },
     Capacity { blocks: u32 },
 }
 
@@ -37,7 +37,7 @@ pub fn kind_of(reply: Reply) -> ReplyKind
         Reply::Sense(_) => ReplyKind::Sense,
         Reply::Inquiry => ReplyKind::Inquiry,
         Reply::Page(page) => ReplyKind::Page(page),
-        Reply::ModeSense => ReplyKind::ModeSense,
+        Reply::ModeSense { protected: _ } => ReplyKind::ModeSense,
         Reply::Capacity { blocks: _ } => ReplyKind::Capacity,
     }
 }
@@ -63,7 +63,7 @@ pub fn reply_bytes(reply: Reply, number: u64) -> Packet
         Reply::Sense(sense) => packet_of(&sense_data(sense)),
         Reply::Inquiry => packet_of(&inquiry_data()),
         Reply::Page(page) => page_bytes(page, number),
-        Reply::ModeSense => packet_of(&[0x03, 0x00, 0x00, 0x00]),
+        Reply::ModeSense { protected } => packet_of(&mode_data(protected)),
         Reply::Capacity { blocks } => packet_of(&capacity_data(blocks)),
     }
 }
@@ -107,6 +107,16 @@ fn inquiry_data() -> [u8; 36]
     put(&mut data, 16, &product);
     put(&mut data, 32, b"0100");
     data
+}
+
+// The device-specific parameter has one bit of ours, WP.
+fn mode_data(protected: bool) -> [u8; 4]
+    ensures { λ r. ⌜ r ≡ modeData protected ⌝ }
+{
+    if protected {
+        return [0x03, 0x00, 0x80, 0x00];
+    }
+    [0x03, 0x00, 0x00, 0x00]
 }
 
 // The last block's number, not the count; a unit of no blocks has none, and 0 stands for it.

@@ -33,6 +33,14 @@ impl Sense {
         ascq: 0x00,
     };
 
+    // A Write to a unit that is write protected.
+    pub const WRITE_PROTECTED: Sense = Sense {
+        information: 0,
+        key: 0x07,
+        asc: 0x27,
+        ascq: 0x00,
+    };
+
     // A data-out packet of the wrong length.
     pub const DATA_PHASE: Sense = Sense {
         information: 0,

@@ -2,7 +2,7 @@
 // numbers.
 ghost use mathlib.Core.Path.{_≡_};
 ghost use mathlib.Core.List.{[], _∷_};
-ghost use Rattle.machine.specs.Units.{sizeFits};
+ghost use Rattle.machine.specs.Units.{sizeFits, switchFits};
 ghost use Rattle.machine.specs.Fits.{numberFits, isReady, idleFits, lockFits, taskFits, fits, outFits, inFits};
 use machine::record::Link;
 use machine::record::LogicalUnit;
@@ -21,6 +21,13 @@ pub fn size_fits(blocks: usize) -> bool
         return false;
     }
     blocks <= (MOST_BLOCKS as usize)
+}
+
+// Open or closed.
+pub fn switch_fits(switch: u8) -> bool
+    ensures { λ r. ⌜ r ≡ switchFits switch ⌝ }
+{
+    switch <= 1
 }
 
 // Twelve decimal digits.
@@ -168,11 +175,15 @@ pub fn fits(identity: Identity, state: State, unit: LogicalUnit) -> bool
     let link = state.link;
     let first = unit.first;
     let blocks = unit.blocks;
+    let switch = unit.switch;
     let task = link.task;
     if first != 0 {
         return false;
     }
     if !size_fits(blocks as usize) {
+        return false;
+    }
+    if !switch_fits(switch) {
         return false;
     }
     if !number_fits(number) {

@@ -1,7 +1,7 @@
-// The states that events leave: each struct is built here and nowhere else.
+// The states that events leave: each struct is built here and nowhere else. With them, what a unit's switch means.
 ghost use mathlib.Core.Path.{_≡_};
 ghost use Rattle.wire.specs.Slices.{zeros};
-ghost use Rattle.machine.specs.Units.{withSense};
+ghost use Rattle.machine.specs.Units.{withSense, withSwitch, isProtected};
 ghost use Rattle.machine.specs.Record.{noTask, moved, withHalts, withAddress, droppedState};
 ghost use Rattle.machine.specs.Bulk.{lockedState};
 use machine::record::Link;
@@ -23,7 +23,7 @@ pub fn no_task() -> Task
     }
 }
 
-// Another sense; the unit's part of the medium stays.
+// Another sense; the unit's part of the medium and its switch stay.
 pub fn with_sense(unit: LogicalUnit, sense: Sense) -> LogicalUnit
     ensures { λ r. ⌜ r ≡ withSense unit sense ⌝ }
 {
@@ -31,7 +31,28 @@ pub fn with_sense(unit: LogicalUnit, sense: Sense) -> LogicalUnit
         first: unit.first,
         blocks: unit.blocks,
         sense,
+        switch: unit.switch,
     }
+}
+
+// The write switch in another position; all else of the unit stays.
+pub fn with_switch(unit: LogicalUnit, position: u8) -> LogicalUnit
+    ensures { λ r. ⌜ r ≡ withSwitch unit position ⌝ }
+{
+    let sense = unit.sense;
+    LogicalUnit {
+        first: unit.first,
+        blocks: unit.blocks,
+        sense,
+        switch: position,
+    }
+}
+
+// A closed switch protects its unit from being written.
+pub fn is_protected(unit: LogicalUnit) -> bool
+    ensures { λ r. ⌜ r ≡ isProtected unit ⌝ }
+{
+    unit.switch == 1
 }
 
 // Within a command: halts and task change.

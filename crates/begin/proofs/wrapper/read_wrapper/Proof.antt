@@ -3,6 +3,7 @@ use Prim.Native.Nat.{ℕ}
 use mathlib.Core.Path.{sym, ap, _∙_}
 use mathlib.Core.List.{List}
 use native.Mathlib.Omega.{arith}
+use lib.ListN.{drop}
 use borrow.Author.Tests.{le-leb, lt-leb, le-ltb}
 use Rattle.wire.specs.Choice.{if_then_else_, _and_}
 use Rattle.wire.proofs.Lists.{tail-is}
@@ -55,6 +56,9 @@ part-plan-of-start c =
 part-plan-of-end : tie.Need-part-plan-of-end
 part-plan-of-end c = search needs
 
+is-protected-requires : tie.Need-is-protected-requires
+is-protected-requires c κs = search needs
+
 plan-of-requires : tie.Need-plan-of-requires
 plan-of-requires c κs = search needs
 
@@ -65,9 +69,10 @@ returns-3 c = simp (not-readable _ _ (c .before .before .read-header .ensures) (
 returns-4 : tie.Need-returns-4
 unfolding wrapperOf accepted _and_ if_then_else_
 returns-4 c =
-    let t = read-readable _ _ _ (c .before .before .before .before .before .before .before .before .before .read-header .ensures) (c .before .before .before .before .before .before .before .header .given .1) in
-    simp (t .0, sym (t .1), c .before .before .before .before .before .if1 .left, sym (c .before .before .before .before .byte .ensures), sym (c .before .before .before .block-length .ensures), le-leb _ _ (c .before .before .if2 .left))
-    (ap (λ (p : Plan). Good (c .before .before .before .before .before .before .before .header .given .0 .0) p) (c .plan-of .ensures ∙ ap (λ (l : List ℕ). planOf l (c .before .before .before .before .before .before .before .before .before .before .before .args .unit .blocks)) (tail-is 15 (c .before .before .before .before .before .before .before .before .before .before .before .args .packet .now))))
+    let a = c .before .before .before .before .before .before .before .before .before .before .before .before .args in
+    let t = read-readable _ _ _ (c .before .before .before .before .before .before .before .before .before .before .read-header .ensures) (c .before .before .before .before .before .before .before .before .header .given .1) in
+    simp (t .0, sym (t .1), c .before .before .before .before .before .before .if1 .left, sym (c .before .before .before .before .before .byte .ensures), sym (c .before .before .before .before .block-length .ensures), le-leb _ _ (c .before .before .before .if2 .left))
+    (ap (λ (p : Plan). Good (c .before .before .before .before .before .before .before .before .header .given .0 .0) p) (c .plan-of .ensures ∙ ap (λ (l : List ℕ). planOf l (a .unit .blocks) (c .before .is-protected .result)) (tail-is 15 (a .packet .now)) ∙ ap (planOf (drop 15 (a .packet .now)) (a .unit .blocks)) (c .before .is-protected .ensures)))
 
 pub read-wrapper-spec : {M : Type 1} → statement M
 read-wrapper-spec =
@@ -83,6 +88,7 @@ read-wrapper-spec =
     sub-plan-of
     part-plan-of-start
     part-plan-of-end
+    is-protected-requires
     plan-of-requires
     returns-3
     returns-4)

@@ -22,8 +22,8 @@ no-value-requires c κs = search needs
 no-value-requires-2 : tie.Need-no-value-requires-2
 no-value-requires-2 c κs = search needs
 
-no-value-requires-3 : tie.Need-no-value-requires-3
-no-value-requires-3 c κs = search needs
+is-position-requires : tie.Need-is-position-requires
+is-position-requires c κs = search needs
 
 no-numbers-requires-2 : tie.Need-no-numbers-requires-2
 no-numbers-requires-2 c κs = search needs
@@ -59,7 +59,7 @@ returns-5 c = c .no-value2 .ensures ∙ at-stage 4 _ (c .before .match .keys5)
 
 returns-6 : tie.Need-returns-6
 unfolding formOf look if_then_else_
-returns-6 c = c .no-value3 .ensures ∙ at-stage 5 _ (c .before .match .keys6)
+returns-6 c = c .is-position .ensures ∙ at-stage 5 _ (c .before .match .keys6)
 
 returns-7 : tie.Need-returns-7
 unfolding formOf look if_then_else_
@@ -92,7 +92,7 @@ stage-decodes-spec =
     no-numbers-requires
     no-value-requires
     no-value-requires-2
-    no-value-requires-3
+    is-position-requires
     no-numbers-requires-2
     no-numbers-requires-3
     no-numbers-requires-4

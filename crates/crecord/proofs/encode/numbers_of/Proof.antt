@@ -56,20 +56,26 @@ enum-told-2 c = search needs
 numbered-requires-5 : tie.Need-numbered-requires-5
 numbered-requires-5 c κs = search needs
 
-enum-told-3 : tie.Need-enum-told-3
-enum-told-3 c = search needs
+enum-known-reply-2 : tie.Need-enum-known-reply-2
+enum-known-reply-2 c = search needs
+
+worth-requires : tie.Need-worth-requires
+worth-requires c κs = search needs
+
+cast-numbered : tie.Need-cast-numbered
+cast-numbered c = search needs
 
 numbered-requires-6 : tie.Need-numbered-requires-6
 numbered-requires-6 c κs = search needs
 
-enum-known-reply-2 : tie.Need-enum-known-reply-2
-enum-known-reply-2 c = search needs
+enum-known-reply-3 : tie.Need-enum-known-reply-3
+enum-known-reply-3 c = search needs
 
 numbered-requires-7 : tie.Need-numbered-requires-7
 numbered-requires-7 c κs = search needs
 
-enum-known-reply-3 : tie.Need-enum-known-reply-3
-enum-known-reply-3 c = search needs
+enum-known-reply-4 : tie.Need-enum-known-reply-4
+enum-known-reply-4 c = search needs
 
 page-code-requires : tie.Need-page-code-requires
 page-code-requires c κs = search needs
@@ -80,20 +86,20 @@ numbered-requires-8 c κs = search needs
 enum-known-stage-4 : tie.Need-enum-known-stage-4
 enum-known-stage-4 c = search needs
 
-enum-told-4 : tie.Need-enum-told-4
-enum-told-4 c = search needs
+enum-told-3 : tie.Need-enum-told-3
+enum-told-3 c = search needs
 
 numbered-requires-9 : tie.Need-numbered-requires-9
 numbered-requires-9 c κs = search needs
 
-enum-told-5 : tie.Need-enum-told-5
-enum-told-5 c = search needs
+enum-told-4 : tie.Need-enum-told-4
+enum-told-4 c = search needs
 
 numbered-requires-10 : tie.Need-numbered-requires-10
 numbered-requires-10 c κs = search needs
 
-enum-told-6 : tie.Need-enum-told-6
-enum-told-6 c = search needs
+enum-told-5 : tie.Need-enum-told-5
+enum-told-5 c = search needs
 
 numbered-requires-11 : tie.Need-numbered-requires-11
 numbered-requires-11 c κs = search needs
@@ -120,27 +126,27 @@ returns-5 c = c .numbered5 .ensures ∙ at-reply _ (c .before .before .before .b
 
 returns-6 : tie.Need-returns-6
 unfolding numbersOf
-returns-6 c = c .numbered6 .ensures ∙ at-reply _ (c .before .before .before .before .stage3 .given .1) (c .before .enum-told3 .given .1)
+returns-6 c = c .numbered6 .ensures ∙ simp (c .before .worth .ensures) (at-reply _ (c .before .before .before .before .before .before .stage3 .given .1) (c .before .before .before .reply2 .given .1))
 
 returns-7 : tie.Need-returns-7
 unfolding numbersOf
-returns-7 c = c .numbered7 .ensures ∙ at-reply _ (c .before .before .before .before .before .stage3 .given .1) (c .before .before .reply2 .given .1)
+returns-7 c = c .numbered7 .ensures ∙ at-reply _ (c .before .before .before .before .before .stage3 .given .1) (c .before .before .reply3 .given .1)
 
 returns-8 : tie.Need-returns-8
 unfolding numbersOf
-returns-8 c = c .numbered8 .ensures ∙ simp (c .before .page-code .ensures) (at-reply _ (c .before .before .before .before .before .before .stage3 .given .1) (c .before .before .before .reply3 .given .1))
+returns-8 c = c .numbered8 .ensures ∙ simp (c .before .page-code .ensures) (at-reply _ (c .before .before .before .before .before .before .stage3 .given .1) (c .before .before .before .reply4 .given .1))
 
 returns-9 : tie.Need-returns-9
 unfolding numbersOf
-returns-9 c = c .numbered9 .ensures ∙ at-status _ (c .before .before .before .before .stage4 .given .1) (c .before .enum-told4 .given .1)
+returns-9 c = c .numbered9 .ensures ∙ at-status _ (c .before .before .before .before .stage4 .given .1) (c .before .enum-told3 .given .1)
 
 returns-10 : tie.Need-returns-10
 unfolding numbersOf
-returns-10 c = c .numbered10 .ensures ∙ at-status _ (c .before .before .before .before .stage4 .given .1) (c .before .enum-told5 .given .1)
+returns-10 c = c .numbered10 .ensures ∙ at-status _ (c .before .before .before .before .stage4 .given .1) (c .before .enum-told4 .given .1)
 
 returns-11 : tie.Need-returns-11
 unfolding numbersOf
-returns-11 c = c .numbered11 .ensures ∙ at-status _ (c .before .before .before .before .stage4 .given .1) (c .before .enum-told6 .given .1)
+returns-11 c = c .numbered11 .ensures ∙ at-status _ (c .before .before .before .before .stage4 .given .1) (c .before .enum-told5 .given .1)
 
 pub numbers-of-spec : {M : Type 1} → statement M
 numbers-of-spec =
@@ -158,19 +164,21 @@ numbers-of-spec =
     numbered-requires-4
     enum-told-2
     numbered-requires-5
-    enum-told-3
-    numbered-requires-6
     enum-known-reply-2
-    numbered-requires-7
+    worth-requires
+    cast-numbered
+    numbered-requires-6
     enum-known-reply-3
+    numbered-requires-7
+    enum-known-reply-4
     page-code-requires
     numbered-requires-8
     enum-known-stage-4
-    enum-told-4
+    enum-told-3
     numbered-requires-9
-    enum-told-5
+    enum-told-4
     numbered-requires-10
-    enum-told-6
+    enum-told-5
     numbered-requires-11
     returns
     returns-2

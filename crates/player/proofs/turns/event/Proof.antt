@@ -32,6 +32,12 @@ ask-requires c κs = search needs
 enum-told-5 : tie.Need-enum-told-5
 enum-told-5 c = search needs
 
+switch-requires : tie.Need-switch-requires
+switch-requires c κs = search needs
+
+enum-told-6 : tie.Need-enum-told-6
+enum-told-6 c = search needs
+
 reset-requires-2 : tie.Need-reset-requires-2
 reset-requires-2 c κs = search needs
 
@@ -59,7 +65,11 @@ returns-4 c = ends-as _ _ _ _ _ _ (c .before .before .enum-told4 .given .1) (c .
 
 returns-5 : tie.Need-returns-5
 unfolding eventOf
-returns-5 c = ends-as _ _ _ _ _ _ (c .before .enum-told5 .given .1) (c .reset2 .ensures _)
+returns-5 c = ends-as _ _ _ _ _ _ (c .before .enum-told5 .given .1) (c .switch .ensures _)
+
+returns-6 : tie.Need-returns-6
+unfolding eventOf
+returns-6 c = ends-as _ _ _ _ _ _ (c .before .enum-told6 .given .1) (c .reset2 .ensures _)
 
 pub event-spec : {M : Type 1} → statement M
 event-spec =
@@ -74,6 +84,8 @@ event-spec =
     enum-told-4
     ask-requires
     enum-told-5
+    switch-requires
+    enum-told-6
     reset-requires-2
     returns
     returns-2
@@ -81,4 +93,5 @@ event-spec =
     returns-3
     same-length-2
     returns-4
-    returns-5)
+    returns-5
+    returns-6)

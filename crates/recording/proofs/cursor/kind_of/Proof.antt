@@ -1,6 +1,7 @@
 -- `kind_of` meets its contract. Assumes nothing.
 use borrow.Author.Tests.{eq-eqb, ne-eqb, le-leb, lt-leb}
-use Rattle.wire.specs.Choice.{if_then_else_}
+use Rattle.wire.specs.Choice.{if_then_else_, _and_}
+use Rattle.machine.specs.Units.{switchFits}
 use Rattle.recording.specs.Format.{kindOf}
 use Rattle.recording.proofs.cursor.kind_of.Statement.{statement}
 use Rattle.recording.proofs.cursor.kind_of.Tie as tie
@@ -42,9 +43,21 @@ unfolding kindOf if_then_else_
 returns-9 c = simp (eq-eqb _ _ (c .before .before .before .before .before .if1 .left), ne-eqb _ _ (c .before .before .before .before .if2 .left), ne-eqb _ _ (c .before .before .before .if4 .left), ne-eqb _ _ (c .before .before .if6 .left), eq-eqb _ _ (c .before .if8 .taken), ne-eqb _ _ (c .if9 .left))
 
 returns-10 : tie.Need-returns-10
+unfolding kindOf if_then_else_ _and_
+returns-10 c = simp (eq-eqb _ _ (c .before .before .before .before .before .before .if1 .left), ne-eqb _ _ (c .before .before .before .before .before .if2 .left), ne-eqb _ _ (c .before .before .before .before .if4 .left), ne-eqb _ _ (c .before .before .before .if6 .left), ne-eqb _ _ (c .before .before .if8 .left), eq-eqb _ _ (c .before .if10 .taken), ne-eqb _ _ (c .if11 .taken))
+
+returns-11 : tie.Need-returns-11
+unfolding kindOf if_then_else_ _and_ switchFits
+returns-11 c = simp (eq-eqb _ _ (c .before .before .before .before .before .before .before .if1 .left), ne-eqb _ _ (c .before .before .before .before .before .before .if2 .left), ne-eqb _ _ (c .before .before .before .before .before .if4 .left), ne-eqb _ _ (c .before .before .before .before .if6 .left), ne-eqb _ _ (c .before .before .before .if8 .left), eq-eqb _ _ (c .before .before .if10 .taken), eq-eqb _ _ (c .before .if11 .left), le-leb _ 1 (c .if12 .taken))
+
+returns-12 : tie.Need-returns-12
+unfolding kindOf if_then_else_ _and_ switchFits
+returns-12 c = simp (eq-eqb _ _ (c .before .before .before .before .before .before .before .if1 .left), ne-eqb _ _ (c .before .before .before .before .before .before .if2 .left), ne-eqb _ _ (c .before .before .before .before .before .if4 .left), ne-eqb _ _ (c .before .before .before .before .if6 .left), ne-eqb _ _ (c .before .before .before .if8 .left), eq-eqb _ _ (c .before .before .if10 .taken), eq-eqb _ _ (c .before .if11 .left), lt-leb _ 1 (c .if12 .left))
+
+returns-13 : tie.Need-returns-13
 unfolding kindOf if_then_else_
-returns-10 c = simp (eq-eqb _ _ (c .before .before .before .before .if1 .left), ne-eqb _ _ (c .before .before .before .if2 .left), ne-eqb _ _ (c .before .before .if4 .left), ne-eqb _ _ (c .before .if6 .left), ne-eqb _ _ (c .if8 .left))
+returns-13 c = simp (eq-eqb _ _ (c .before .before .before .before .before .if1 .left), ne-eqb _ _ (c .before .before .before .before .if2 .left), ne-eqb _ _ (c .before .before .before .if4 .left), ne-eqb _ _ (c .before .before .if6 .left), ne-eqb _ _ (c .before .if8 .left), ne-eqb _ _ (c .if10 .left))
 
 pub kind-of-spec : {M : Type 1} → statement M
 kind-of-spec =
-    tie.close (tie.spec returns returns-2 returns-3 returns-4 returns-5 returns-6 returns-7 returns-8 returns-9 returns-10)
+    tie.close (tie.spec returns returns-2 returns-3 returns-4 returns-5 returns-6 returns-7 returns-8 returns-9 returns-10 returns-11 returns-12 returns-13)

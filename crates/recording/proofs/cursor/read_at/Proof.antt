@@ -57,6 +57,9 @@ add-byte c = search needs
 byte-requires-2 : tie.Need-byte-requires-2
 byte-requires-2 c κs = search needs
 
+byte-requires-3 : tie.Need-byte-requires-3
+byte-requires-3 c κs = search needs
+
 kind-of-requires : tie.Need-kind-of-requires
 kind-of-requires c κs = search needs
 
@@ -68,10 +71,10 @@ add-t6 c = search needs
 
 returns-5 : tie.Need-returns-5
 returns-5 c =
-    let n = c .before .before .before .before .le16 in
-    let a = c .before .before .before .before .before .before .before .before .before .args in
+    let n = c .before .before .before .before .before .le16 in
+    let a = c .before .before .before .before .before .before .before .before .before .before .args in
     ap numbered (ap (λ (k : Kind). reading k (n .result) (a .entry + 4) (a .body + n .result)) (c .kind-of .ensures)
-    ∙ found _ _ _ _ _ _ (c .before .before .byte .ensures) (c .before .byte2 .ensures) (n .ensures) (omega arith) (omega arith))
+    ∙ found _ _ _ _ _ _ _ (c .before .before .before .byte .ensures) (c .before .before .byte2 .ensures) (n .ensures) (c .before .byte3 .ensures) (omega arith) (omega arith))
 
 pub read-at-spec : {M : Type 1} → statement M
 read-at-spec =
@@ -93,6 +96,7 @@ read-at-spec =
     byte-requires
     add-byte
     byte-requires-2
+    byte-requires-3
     kind-of-requires
     add-t8
     add-t6

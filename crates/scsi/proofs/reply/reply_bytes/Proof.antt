@@ -1,7 +1,7 @@
 -- `reply_bytes` meets its contract. Assumes nothing.
 use mathlib.Core.Path.{ap, _∙_}
 use Rattle.wire.specs.Packet.{packetOf}
-use Rattle.scsi.specs.Reply.{replyPacket, modeData}
+use Rattle.scsi.specs.Reply.{replyPacket}
 use borrow.Author.Needs.{needs}
 use Rattle.scsi.proofs.reply.reply_bytes.Statement.{statement}
 use Rattle.scsi.proofs.reply.reply_bytes.Tie as tie
@@ -36,8 +36,11 @@ enum-known-reply-2 c = search needs
 page-bytes-requires : tie.Need-page-bytes-requires
 page-bytes-requires c κs = search needs
 
-enum-told-2 : tie.Need-enum-told-2
-enum-told-2 c = search needs
+enum-known-reply-3 : tie.Need-enum-known-reply-3
+enum-known-reply-3 c = search needs
+
+mode-data-requires : tie.Need-mode-data-requires
+mode-data-requires c κs = search needs
 
 slice-aggregate-packet-of-3 : tie.Need-slice-aggregate-packet-of-3
 slice-aggregate-packet-of-3 c = search needs
@@ -45,8 +48,8 @@ slice-aggregate-packet-of-3 c = search needs
 packet-of-requires-3 : tie.Need-packet-of-requires-3
 packet-of-requires-3 c κs = search needs
 
-enum-known-reply-3 : tie.Need-enum-known-reply-3
-enum-known-reply-3 c = search needs
+enum-known-reply-4 : tie.Need-enum-known-reply-4
+enum-known-reply-4 c = search needs
 
 capacity-data-requires : tie.Need-capacity-data-requires
 capacity-data-requires c κs = search needs
@@ -70,12 +73,12 @@ unfolding replyPacket
 returns-3 c = simp (c .before .before .reply2 .given .1) (c .page-bytes .ensures)
 
 returns-4 : tie.Need-returns-4
-unfolding replyPacket modeData
-returns-4 c = simp (c .before .before .enum-told2 .given .1) (c .packet-of3 .ensures)
+unfolding replyPacket
+returns-4 c = simp (c .before .before .before .before .reply3 .given .1) (c .packet-of3 .ensures ∙ ap packetOf (c .before .before .mode-data .ensures))
 
 returns-5 : tie.Need-returns-5
 unfolding replyPacket
-returns-5 c = simp (c .before .before .before .before .reply3 .given .1) (c .packet-of4 .ensures ∙ ap packetOf (c .before .before .capacity-data .ensures))
+returns-5 c = simp (c .before .before .before .before .reply4 .given .1) (c .packet-of4 .ensures ∙ ap packetOf (c .before .before .capacity-data .ensures))
 
 pub reply-bytes-spec : {M : Type 1} → statement M
 reply-bytes-spec =
@@ -91,10 +94,11 @@ reply-bytes-spec =
     packet-of-requires-2
     enum-known-reply-2
     page-bytes-requires
-    enum-told-2
+    enum-known-reply-3
+    mode-data-requires
     slice-aggregate-packet-of-3
     packet-of-requires-3
-    enum-known-reply-3
+    enum-known-reply-4
     capacity-data-requires
     slice-aggregate-packet-of-4
     packet-of-requires-4
