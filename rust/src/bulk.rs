@@ -68,7 +68,7 @@ impl Device {
     /// Decides the command and its meeting with what the host announces.
     fn begin(&mut self, cbw: &Cbw) {
         self.pending = Pending { tag: cbw.tag, announced: cbw.announced, residue: cbw.announced };
-        let outcome = scsi::decide(cbw.block, self.sense, self.blocks);
+        let outcome = scsi::decide(cbw.block, self.sense, self.blocks, self.switch);
         let data = outcome.unwrap_or(Data::None);
         if Case::of(cbw, &data).is_phase_error() {
             // Found before the command ran: sense and medium stay.

@@ -46,9 +46,10 @@ unsafe extern "C" {
         buffer: *mut u8,
         buffer_len: usize,
     ) -> CAnswer;
+    fn collector_set_switch(record: *mut Record, position: u8) -> CAnswer;
 }
 
-// SAFETY of all five calls: a slice's pointer is valid for its length and not null, exclusive where the callee
+// SAFETY of all six calls: a slice's pointer is valid for its length and not null, exclusive where the callee
 // writes, and any bytes are a record.
 
 #[inline]
@@ -75,4 +76,9 @@ pub fn bulk_out(record: &mut Record, medium: &mut [u8], packet: &[u8]) -> CAnswe
 #[inline]
 pub fn bulk_in(record: &mut Record, medium: &[u8], buffer: &mut [u8]) -> CAnswer {
     unsafe { collector_bulk_in(record, medium.as_ptr(), medium.len(), buffer.as_mut_ptr(), buffer.len()) }
+}
+
+#[inline]
+pub fn set_switch(record: &mut Record, position: u8) -> CAnswer {
+    unsafe { collector_set_switch(record, position) }
 }

@@ -1,6 +1,7 @@
 //! The device's state, its making, its bus reset, and the checks that every event shares.
 
 use crate::scsi::{Reply, Sense};
+use crate::switch::Switch;
 use crate::wrapper::Status;
 
 pub const BLOCK: usize = 512;
@@ -123,6 +124,7 @@ pub struct Device {
     /// Clear Feature has no effect until the command is dropped.
     pub(crate) locked: bool,
     pub(crate) sense: Sense,
+    pub(crate) switch: Switch,
     /// Not looked at where no command is in hand.
     pub(crate) pending: Pending,
     pub(crate) stage: Stage,
@@ -149,6 +151,7 @@ impl Device {
             halt_out: false,
             locked: false,
             sense: Sense::NONE,
+            switch: Switch::Open,
             pending: Pending::NONE,
             stage: Stage::Ready,
             part: [0; BLOCK],
@@ -168,7 +171,7 @@ impl Device {
         Answer::Ack
     }
 
-    /// § Control requests, "Dropping the command means". The halts stay.
+    /// § Control requests, "Dropping the command means". The halts and the switch stay.
     pub(crate) fn drop_command(&mut self) {
         self.stage = Stage::Ready;
         self.pending = Pending::NONE;

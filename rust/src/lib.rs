@@ -13,5 +13,6 @@ pub mod device;
 pub mod pages;
 pub mod record;
 pub mod scsi;
+pub mod switch;
 pub mod usb;
 pub mod wrapper;

@@ -3,6 +3,7 @@
 use crate::device::{Device, Identity, Pending, Source, Stage};
 use crate::pages::Page;
 use crate::scsi::{Reply, Sense};
+use crate::switch::Switch;
 use crate::wrapper::Status;
 use std::mem::{align_of, offset_of, size_of};
 
@@ -31,7 +32,8 @@ pub struct Record {
     pub sense_key: u8,
     pub sense_asc: u8,
     pub sense_ascq: u8,
-    pub reserved1: [u8; 2],
+    pub write_switch: u8,
+    pub reserved1: u8,
     pub part: [u8; 512],
     pub reserved2: [u8; 4],
 }
@@ -45,7 +47,8 @@ const _: () = {
     assert!(offset_of!(Record, extra) == 32 && offset_of!(Record, tag) == 36);
     assert!(offset_of!(Record, blocks) == 44 && offset_of!(Record, sense_information) == 48);
     assert!(offset_of!(Record, stage) == 52 && offset_of!(Record, flags) == 53);
-    assert!(offset_of!(Record, sense_key) == 55 && offset_of!(Record, reserved1) == 58);
+    assert!(offset_of!(Record, sense_key) == 55 && offset_of!(Record, sense_ascq) == 57);
+    assert!(offset_of!(Record, write_switch) == 58 && offset_of!(Record, reserved1) == 59);
     assert!(offset_of!(Record, part) == 60 && offset_of!(Record, reserved2) == 572);
 };
 
@@ -104,7 +107,8 @@ impl Record {
         sense_key: 0,
         sense_asc: 0,
         sense_ascq: 0,
-        reserved1: [0; 2],
+        write_switch: Switch::Open as u8,
+        reserved1: 0,
         part: [0; 512],
         reserved2: [0; 4],
     };
@@ -117,7 +121,7 @@ impl Record {
 
     /// The record's bytes, zeros in the place of the reserved ones.
     fn meaning(&self) -> [u8; SIZE] {
-        let mut record = Record { reserved0: 0, reserved1: [0; 2], reserved2: [0; 4], ..*self };
+        let mut record = Record { reserved0: 0, reserved1: 0, reserved2: [0; 4], ..*self };
         *record.as_bytes_mut()
     }
 
@@ -148,7 +152,18 @@ impl Record {
         Sense { information, ..Sense::new(self.sense_key, self.sense_asc, self.sense_ascq) }
     }
 
-    /// `None` for a stage over 10, and for a product page that the device does not have.
+    /// Whether the write switch is closed.
+    pub fn closed(&self) -> bool {
+        self.switch() == Some(Switch::Closed)
+    }
+
+    /// `None` for a position that there is not.
+    pub fn switch(&self) -> Option<Switch> {
+        Switch::from_position(self.write_switch)
+    }
+
+    /// `None` for a stage over 10, for a position of the switch that there is not, and for a product page that the
+    /// device does not have.
     fn stage(&self) -> Option<Stage> {
         let data_in = |source| Stage::DataIn { source, place: self.place, left: self.left };
         Some(match self.stage {
@@ -161,7 +176,10 @@ impl Record {
                 data_in(Source::Reply(Reply::Sense(sense)))
             }
             stage::INQUIRY => data_in(Source::Reply(Reply::Inquiry)),
-            stage::MODE_SENSE => data_in(Source::Reply(Reply::ModeSense)),
+            stage::MODE_SENSE => {
+                let position = u8::try_from(self.value).ok()?;
+                data_in(Source::Reply(Reply::ModeSense(Switch::from_position(position)?)))
+            }
             stage::READ_CAPACITY => data_in(Source::Reply(Reply::Capacity(self.value))),
             stage::PASSED => Stage::Status(Status::Passed),
             stage::FAILED => Stage::Status(Status::Failed),
@@ -202,7 +220,10 @@ impl Record {
                 self.value = page as u32;
                 stage::PRODUCT_PAGE
             }
-            Source::Reply(Reply::ModeSense) => stage::MODE_SENSE,
+            Source::Reply(Reply::ModeSense(switch)) => {
+                self.value = switch as u32;
+                stage::MODE_SENSE
+            }
             Source::Reply(Reply::Capacity(blocks)) => {
                 self.value = blocks;
                 stage::READ_CAPACITY
@@ -213,8 +234,9 @@ impl Record {
 
 impl Device {
     /// `None` where the record does not decode: flags over 15, a stage over 10, a place, left, value or extra that its
-    /// stage does not use and that is not 0, a reply's sense of more than three bytes, or a product page that is none of
-    /// the device's. Whether it fits together is for the events to ask.
+    /// stage does not use and that is not 0, a reply's sense of more than three bytes, a product page that is none of
+    /// the device's, or a switch, its own or that of Mode Sense, neither open nor closed. Whether it fits together is
+    /// for the events to ask.
     pub fn from_record(record: &Record) -> Option<Device> {
         let device = Device {
             identity: Identity {
@@ -230,6 +252,7 @@ impl Device {
             halt_out: record.halt_out(),
             locked: record.locked(),
             sense: record.sense(),
+            switch: record.switch()?,
             pending: Pending { tag: record.tag, announced: record.announced, residue: record.residue },
             stage: record.stage()?,
             part: record.part,
@@ -254,6 +277,7 @@ impl Device {
             sense_key: self.sense.key,
             sense_asc: self.sense.asc,
             sense_ascq: self.sense.ascq,
+            write_switch: self.switch as u8,
             part: self.part,
             ..Record::ZERO
         };

@@ -1,7 +1,9 @@
-//! SCSI: the commands of the one logical unit, their sense and replies (§ Commands; document 02, A1, A2, A8 and A12).
+//! SCSI: the commands of the one logical unit, their sense and replies (§ Commands; document 02, A1, A2, A4, A8 and
+//! A12).
 
 use crate::device::{Identity, BLOCK};
 use crate::pages::Page;
+use crate::switch::Switch;
 
 /// Sense key, additional sense code and its qualifier, and INFORMATION.
 #[derive(Clone, Copy, Debug, PartialEq, Eq)]
@@ -17,6 +19,7 @@ impl Sense {
     pub const NONE: Sense = Sense::new(0x00, 0x00, 0x00);
     pub const INVALID_OPERATION_CODE: Sense = Sense::new(0x05, 0x20, 0x00);
     pub const INVALID_FIELD: Sense = Sense::new(0x05, 0x24, 0x00);
+    pub const WRITE_PROTECTED: Sense = Sense::new(0x07, 0x27, 0x00);
     pub const DATA_PHASE_ERROR: Sense = Sense::new(0x0B, 0x4B, 0x00);
 
     pub const fn new(key: u8, asc: u8, ascq: u8) -> Sense {
@@ -61,13 +64,13 @@ pub enum Reply {
     Inquiry,
     /// Inquiry's product page. The collector number is the device's when the page is sent.
     Page(Page),
-    ModeSense,
+    /// Mode Sense with the switch as it stood when the command came.
+    ModeSense(Switch),
     /// Read Capacity of so many blocks.
     Capacity(u32),
 }
 
 const INQUIRY: [u8; 36] = *b"\x00\x80\x05\x02\x1F\x00\x00\x00COLLECT METER EXPORT    0100";
-const MODE_SENSE: [u8; 4] = [0x03, 0x00, 0x00, 0x00];
 
 impl Reply {
     /// The whole reply's size, before any allocation length cuts it.
@@ -76,7 +79,7 @@ impl Reply {
             Reply::Sense(_) => 18,
             Reply::Inquiry => 36,
             Reply::Page(page) => page.size(),
-            Reply::ModeSense => 4,
+            Reply::ModeSense(_) => 4,
             Reply::Capacity(_) => 8,
         }
     }
@@ -88,7 +91,7 @@ impl Reply {
             Reply::Sense(sense) => out.copy_from_slice(&fixed_format(sense)[part]),
             Reply::Inquiry => out.copy_from_slice(&INQUIRY[part]),
             Reply::Page(page) => out.copy_from_slice(&page.bytes(identity)[part]),
-            Reply::ModeSense => out.copy_from_slice(&MODE_SENSE[part]),
+            Reply::ModeSense(switch) => out.copy_from_slice(&mode_parameters(switch)[part]),
             Reply::Capacity(blocks) => out.copy_from_slice(&capacity(blocks)[part]),
         }
     }
@@ -108,6 +111,14 @@ fn fixed_format(sense: Sense) -> [u8; 18] {
         reply[3..7].copy_from_slice(&sense.information.to_be_bytes());
     }
     reply
+}
+
+/// The mode parameter header, all that there is. WP, bit 7 of its third byte, shows the switch (document 02, A4).
+fn mode_parameters(switch: Switch) -> [u8; 4] {
+    match switch {
+        Switch::Open => [0x03, 0x00, 0x00, 0x00],
+        Switch::Closed => [0x03, 0x00, 0x80, 0x00],
+    }
 }
 
 /// Read Capacity tells the last block, not the count. A unit has at least one block; a record that was never
@@ -177,8 +188,8 @@ pub fn allocation_length(block: &[u8; 16]) -> Option<u16> {
     }
 }
 
-/// Checks a command block: code, fields, range, in that order. The control byte is a field of every command.
-pub fn decide(block: &[u8; 16], found: Sense, blocks: u32) -> Result<Data, Sense> {
+/// Checks a command block: code, fields, range, switch, in that order. The control byte is a field of every command.
+pub fn decide(block: &[u8; 16], found: Sense, blocks: u32, switch: Switch) -> Result<Data, Sense> {
     if let Some(place) = control_place(block[0]) {
         field(block[place] & REFUSED_CONTROL_BITS == 0)?;
     }
@@ -191,7 +202,7 @@ pub fn decide(block: &[u8; 16], found: Sense, blocks: u32) -> Result<Data, Sense
         code::INQUIRY => Ok(Data::reply(inquiry(block)?, block)),
         code::MODE_SENSE => {
             field(block[2] == 0x3F)?;
-            Ok(Data::reply(Reply::ModeSense, block))
+            Ok(Data::reply(Reply::ModeSense(switch), block))
         }
         code::PREVENT_ALLOW => field(block[4] & 0x01 == 0).map(|()| Data::None),
         code::READ_CAPACITY => Ok(Data::reply(Reply::Capacity(blocks), block)),
@@ -204,7 +215,9 @@ pub fn decide(block: &[u8; 16], found: Sense, blocks: u32) -> Result<Data, Sense
         }
         code::WRITE => {
             field(block[1] & 0xE0 == 0)?;
-            Ok(match range(block, blocks)? {
+            let range = range(block, blocks)?;
+            writable(switch)?;
+            Ok(match range {
                 (_, 0) => Data::None,
                 (block, count) => Data::Write { block, count },
             })
@@ -231,6 +244,14 @@ fn inquiry(block: &[u8; 16]) -> Result<Reply, Sense> {
 
 fn field(good: bool) -> Result<(), Sense> {
     good.then_some(()).ok_or(Sense::INVALID_FIELD)
+}
+
+/// With the switch closed no Write passes, one of no blocks included (document 02, A4).
+fn writable(switch: Switch) -> Result<(), Sense> {
+    match switch {
+        Switch::Open => Ok(()),
+        Switch::Closed => Err(Sense::WRITE_PROTECTED),
+    }
 }
 
 /// Block address and count. Their sum is taken in 64 bits, for it does not fit in 32; count 0 is checked too. A failure

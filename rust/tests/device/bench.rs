@@ -53,6 +53,11 @@ impl Bench {
         assert_eq!(self.control([0x02, 0x01, 0, 0, endpoint, 0, 0, 0]), Ok(vec![]));
     }
 
+    /// Moves the write switch, which must be taken.
+    pub fn set_switch(&mut self, position: u8) {
+        assert_eq!(self.device.set_switch(position), Answer::Ack);
+    }
+
     /// Takes the status, which must carry the tag; gives back the residue and the status byte.
     pub fn status(&mut self) -> (u32, u8) {
         let csw = self.ask().unwrap();

@@ -16,3 +16,6 @@ mod refused_block;
 mod sense_data;
 mod sense_drop;
 mod sense_records;
+mod switch;
+mod switch_records;
+mod switch_writes;

@@ -44,7 +44,7 @@ fn what_decodes_is_kept() {
 
 #[test]
 fn reserved_bytes_have_no_meaning() {
-    let record = Record { reserved0: 1, reserved1: [2; 2], reserved2: [3; 4], ..ready() };
+    let record = Record { reserved0: 1, reserved1: 2, reserved2: [3; 4], ..ready() };
     assert_eq!(record, ready());
     assert_eq!(Device::from_record(&record), Device::from_record(&ready()));
     assert_ne!(Record { part: [1; 512], ..ready() }, ready());

@@ -1,4 +1,4 @@
-//! Request Sense's 18 bytes as document 02, A8 has them.
+//! Request Sense's 18 bytes as document 02, A8 has them, and the senses that there are.
 
 /// After a range failure: F0, and the first block outside the unit.
 pub fn range_failure(block: u32) -> [u8; 18] {
@@ -14,4 +14,5 @@ pub fn other([key, asc, ascq]: [u8; 3]) -> [u8; 18] {
 pub const NONE: [u8; 3] = [0x00, 0x00, 0x00];
 pub const OPERATION: [u8; 3] = [0x05, 0x20, 0x00];
 pub const FIELD: [u8; 3] = [0x05, 0x24, 0x00];
+pub const WRITE_PROTECTED: [u8; 3] = [0x07, 0x27, 0x00];
 pub const DATA_PHASE: [u8; 3] = [0x0B, 0x4B, 0x00];

@@ -1,13 +1,14 @@
 //! What a run has met of blocks far out in a medium (document 02, A5): where a device with too few bits for a block
 //! address, for its sum with a count, or for the bytes still due goes wrong.
 
+use crate::coverage::decide;
 use crate::event::Event;
 use crate::own::LIMIT;
 use crate::pair::Played;
 use crate::table::Table;
 use ordinary::device::{BLOCK, PACKET};
 use ordinary::record::{stage, Record};
-use ordinary::scsi::{self, code, Sense};
+use ordinary::scsi::code;
 use ordinary::wrapper::Cbw;
 
 pub const OPERATIONS: [(u8, &str); 3] =
@@ -40,17 +41,18 @@ impl BlockPlaces {
             }
             (Event::BulkOut { packet, .. }, 1, stage::READY) => {
                 let cbw = Cbw::accept(packet);
-                cbw.iter().for_each(|cbw| self.note_wrapper(blocks, cbw.block));
+                cbw.iter().for_each(|cbw| self.note_wrapper(before, cbw.block));
             }
             _ => {}
         }
     }
 
-    fn note_wrapper(&mut self, blocks: u32, block: &[u8; 16]) {
+    fn note_wrapper(&mut self, before: &Record, block: &[u8; 16]) {
+        let blocks = before.blocks;
         let Some(operation) = OPERATIONS.iter().position(|(code, _)| *code == block[0]) else { return };
         let (address, count) = range(block);
         let end = u64::from(address) + u64::from(count);
-        match scsi::decide(block, Sense::NONE, blocks) {
+        match decide(before, block) {
             Ok(_) if block[0] == code::VERIFY && count > 0 => {
                 self.note_served(operation, blocks, end as u32 - 1, count.into());
             }
@@ -100,6 +102,6 @@ pub fn range(block: &[u8; 16]) -> (u32, u16) {
 }
 
 /// Whether a packet of data completes the part block.
-fn completes(before: &Record, packet: &[u8]) -> bool {
+pub fn completes(before: &Record, packet: &[u8]) -> bool {
     packet.len() == PACKET && before.value as usize + PACKET == BLOCK
 }

@@ -6,6 +6,7 @@ use crate::random::Random;
 use ordinary::device::BLOCK;
 use ordinary::record::Record;
 use ordinary::scsi::{self, code, Data, Sense, REFUSED_CONTROL_BITS};
+use ordinary::switch::Switch;
 use ordinary::wrapper::{CBW_SIGNATURE, CBW_SIZE};
 
 const CODES: [u8; 16] = [
@@ -31,7 +32,8 @@ const CODES: [u8; 16] = [
 const MEDIUM_CODES: [u8; 4] = [code::READ_CAPACITY, code::READ, code::WRITE, code::VERIFY];
 
 /// A packet that is mostly an accepted wrapper. What it announces is what its command would move without the refused
-/// bits of the control byte: a host that sets them expects that they are obeyed.
+/// bits of byte 1 and of the control byte, since a host that sets them expects that they are obeyed, and with the write
+/// switch open, since a host may not know of it.
 pub fn wrapper(random: &mut Random, record: &Record, marked: &[u32]) -> Vec<u8> {
     // A record that does not fit may tell of any number of blocks.
     let blocks = record.blocks.min(LIMIT);
@@ -40,6 +42,9 @@ pub fn wrapper(random: &mut Random, record: &Record, marked: &[u32]) -> Vec<u8> 
     let (announced, data_in) = announce(random, &block, blocks);
     if random.one_in(8) {
         refuse_control(random, &mut block);
+    }
+    if random.one_in(16) {
+        refuse_byte_1(random, &mut block);
     }
     let need = scsi::block_length(block[0]);
     let length = match random.below(3) {
@@ -119,6 +124,13 @@ fn refuse_control(random: &mut Random, block: &mut [u8; 16]) {
     }
 }
 
+/// Sets one of bits 5 to 7 of byte 1, where they are refused.
+fn refuse_byte_1(random: &mut Random, block: &mut [u8; 16]) {
+    if matches!(block[0], code::READ | code::WRITE | code::VERIFY) {
+        block[1] |= 1 << random.pick(&[5, 6, 7]);
+    }
+}
+
 /// Block address and count: mostly within the unit, often at its end or just past it. In a large one mostly at a
 /// marked block.
 fn place(random: &mut Random, block: &mut [u8; 16], blocks: u32, marked: &[u32]) {
@@ -157,7 +169,7 @@ fn count(random: &mut Random, operation: u8, blocks: u32) -> u16 {
 
 /// The announced length and direction: mostly those of the device's data.
 fn announce(random: &mut Random, block: &[u8; 16], blocks: u32) -> (u32, bool) {
-    let (length, data_in) = match scsi::decide(block, Sense::NONE, blocks) {
+    let (length, data_in) = match scsi::decide(block, Sense::NONE, blocks, Switch::Open) {
         Ok(Data::Reply { length, .. }) => (length, true),
         Ok(Data::Read { count, .. }) => (count * BLOCK as u32, true),
         Ok(Data::Write { count, .. }) => (count * BLOCK as u32, false),

@@ -35,7 +35,7 @@ pub fn show(record: &Record) -> String {
     format!("{}; {held} bytes of the part block not 0", text.join(", "))
 }
 
-fn fields(record: &Record) -> [(&'static str, u64); 17] {
+fn fields(record: &Record) -> [(&'static str, u64); 18] {
     let sense = u32::from_be_bytes([0, record.sense_key, record.sense_asc, record.sense_ascq]);
     [
         ("number", record.number),
@@ -55,5 +55,6 @@ fn fields(record: &Record) -> [(&'static str, u64); 17] {
         ("address", record.address.into()),
         ("sense", sense.into()),
         ("sense information", record.sense_information.into()),
+        ("write switch", record.write_switch.into()),
     ]
 }

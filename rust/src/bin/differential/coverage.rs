@@ -11,15 +11,25 @@ use crate::product_page::ProductPages;
 use crate::refused_block::RefusedBlocks;
 use crate::sense_drop::SenseDrops;
 use crate::sense_history::SenseHistory;
+use crate::switch_drop::SwitchDrops;
+use crate::switch_event::SwitchEvents;
+use crate::switch_reply::SwitchReplies;
+use crate::switch_write::SwitchWrites;
 use ordinary::cases::Case;
 use ordinary::record::{stage, Record};
-use ordinary::scsi::{self, code, Data};
+use ordinary::scsi::{self, code, Data, Sense};
 use ordinary::wrapper::Cbw;
 
 const NUMBERS: [usize; 11] = [0, 1, 2, 3, 4, 10, 11, 12, 13, 14, 15];
 /// The answers that each kind can give: all are owed.
-const OWED: [&[usize]; 5] =
-    [&[1, 11, 15], &[1, 10], &[0, 1, 3, 10, 12, 14], &[1, 2, 3, 4, 10, 11, 13], &[0, 2, 3, 4, 10, 11, 12]];
+const OWED: [&[usize]; KINDS.len()] = [
+    &[1, 11, 15],
+    &[1, 10],
+    &[0, 1, 3, 10, 12, 14],
+    &[1, 2, 3, 4, 10, 11, 13],
+    &[0, 2, 3, 4, 10, 11, 12],
+    &[1, 10],
+];
 pub const COMMANDS: [(u8, &str); 9] = [
     (code::TEST_UNIT_READY, "Test Unit Ready"),
     (code::REQUEST_SENSE, "Request Sense"),
@@ -39,7 +49,7 @@ pub const PHASE_ERROR: usize = 2;
 
 #[derive(Default)]
 pub struct Coverage {
-    answers: [[u64; 16]; 5],
+    answers: [[u64; 16]; KINDS.len()],
     /// By command of the table, the last for any other; passed, failed, phase error found at the wrapper.
     commands: [[u64; 3]; COMMANDS.len() + 1],
     allocation_lengths: AllocationLengths,
@@ -51,6 +61,10 @@ pub struct Coverage {
     refused_blocks: RefusedBlocks,
     sense_drops: SenseDrops,
     sense_history: SenseHistory,
+    switch_events: SwitchEvents,
+    switch_writes: SwitchWrites,
+    switch_replies: SwitchReplies,
+    switch_drops: SwitchDrops,
     cases: [u64; 14],
     statuses: [u64; 3],
 }
@@ -64,6 +78,10 @@ impl Coverage {
         self.block_places.note(before, event, played);
         self.sense_drops.note(before, event, played);
         self.sense_history.note(before, event, played);
+        self.switch_events.note(before, event, played);
+        self.switch_writes.note(before, event, played);
+        self.switch_replies.note(before, event, played);
+        self.switch_drops.note(before, event, played);
         match event {
             Event::BulkOut { packet, .. } if number == 1 && before.stage == stage::READY => {
                 self.note_wrapper(before, packet);
@@ -130,6 +148,10 @@ impl Coverage {
         self.refused_blocks.print();
         self.sense_drops.print();
         self.sense_history.print();
+        self.switch_events.print();
+        self.switch_writes.print();
+        self.switch_replies.print();
+        self.switch_drops.print();
         println!("\nthe thirteen meetings of host and device");
         for case in Case::ALL {
             println!("  {:>2} {:<18}{:>9}", case as usize, format!("{case:?}"), self.cases[case as usize]);
@@ -168,13 +190,23 @@ impl Coverage {
         missing.extend(self.refused_blocks.missing());
         missing.extend(self.sense_drops.missing());
         missing.extend(self.sense_history.missing());
+        missing.extend(self.switch_events.missing());
+        missing.extend(self.switch_writes.missing());
+        missing.extend(self.switch_replies.missing());
+        missing.extend(self.switch_drops.missing());
         missing
     }
 }
 
+/// What is decided of an accepted wrapper's block on a device in the state of `before`.
+pub fn decide(before: &Record, block: &[u8; 16]) -> Result<Data, Sense> {
+    let switch = before.switch().expect("an event was answered, so that the record decodes");
+    scsi::decide(block, before.sense(), before.blocks, switch)
+}
+
 /// A wrapper's meeting on a device in the state of `before`, and its verdict.
 pub fn verdict(before: &Record, cbw: &Cbw) -> (Case, usize) {
-    let outcome = scsi::decide(cbw.block, before.sense(), before.blocks);
+    let outcome = decide(before, cbw.block);
     let case = Case::of(cbw, &outcome.unwrap_or(Data::None));
     let verdict = match outcome {
         _ if case.is_phase_error() => PHASE_ERROR,

@@ -12,6 +12,8 @@ use crate::random::Random;
 use crate::record_size::RecordSizes;
 use crate::requests;
 use crate::sense_record::SenseRecords;
+use crate::switch::{CLOSED, OPEN};
+use crate::switch_record::SwitchRecords;
 use ordinary::device::BLOCK;
 use ordinary::record::{stage, Record, SIZE};
 use std::mem::offset_of;
@@ -34,6 +36,7 @@ pub struct Damage {
     pub sizes: RecordSizes,
     pub pages: PageRecords,
     pub senses: SenseRecords,
+    pub switches: SwitchRecords,
 }
 
 impl Damage {
@@ -93,7 +96,7 @@ impl Damage {
         }
     }
 
-    /// Changes a byte of a reached record in some ways, then plays each of the four events on it. A reserved byte must
+    /// Changes a byte of a reached record in some ways, then plays each of the five events on it. A reserved byte must
     /// not be looked at.
     fn change(
         &mut self,
@@ -108,7 +111,7 @@ impl Damage {
         for new in [old ^ 1 << random.below(8), old.wrapping_add(1), random.number() as u8] {
             let mut record = *reached;
             record.as_bytes_mut()[at] = new;
-            for event in four_events(random, &record, lent(own, &record)) {
+            for event in five_events(random, &record, lent(own, &record)) {
                 pair.load(record);
                 self.play(pair, &record, &event)?;
                 if let (Event::BulkOut { .. }, Some(medium)) = (&event, medium) {
@@ -119,7 +122,7 @@ impl Damage {
         Ok(())
     }
 
-    /// Plays each of the four events and a short list of events on a record that was made up.
+    /// Plays each of the five events and a short list of events on a record that was made up.
     fn invented(
         &mut self,
         random: &mut Random,
@@ -127,7 +130,7 @@ impl Damage {
         record: &Record,
         own: &Own,
     ) -> Result<(), String> {
-        for event in four_events(random, record, lent(own, record)) {
+        for event in five_events(random, record, lent(own, record)) {
             pair.load(*record);
             self.play(pair, record, &event)?;
         }
@@ -145,11 +148,17 @@ impl Damage {
         let played = pair
             .play(event)
             .map_err(|difference| format!("record: {}\nevent: {event}\n{difference}", show(before)))?;
+        self.events += 1;
+        if let Event::Switch { position: 2.. } = event {
+            // Number 10 whatever the record: it tells nothing of that.
+            self.switches.note_no_position(before);
+            return Ok(());
+        }
         let unfit = played.answer.number == 10;
         self.sizes.note(before, event, &played);
         self.pages.note(before, event, &played);
         self.senses.note(before, event, &played);
-        self.events += 1;
+        self.switches.note(before, event, &played);
         self.undecoded += u64::from(!decodes);
         self.unfit += u64::from(decodes && unfit);
         self.fit += u64::from(!unfit);
@@ -167,12 +176,13 @@ fn lent(own: &Own, record: &Record) -> Lent {
     }
 }
 
-fn four_events(random: &mut Random, record: &Record, medium: Lent) -> [Event; 4] {
+fn five_events(random: &mut Random, record: &Record, medium: Lent) -> [Event; 5] {
     let setup = requests::known(random);
     [
         Event::BusReset,
         host::control(random, setup),
         Event::BulkOut { medium, packet: host::packet(random, record, &[]) },
         Event::BulkIn { medium, buffer: host::buffer(random) },
+        Event::Switch { position: random.pick(&[OPEN, CLOSED]) },
     ]
 }

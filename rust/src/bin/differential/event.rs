@@ -24,9 +24,10 @@ pub enum Event {
     Control { setup: Vec<u8>, buffer: Buffer },
     BulkOut { medium: Lent, packet: Vec<u8> },
     BulkIn { medium: Lent, buffer: Buffer },
+    Switch { position: u8 },
 }
 
-pub const KINDS: [&str; 5] = ["make", "bus reset", "control", "bulk-out", "bulk-in"];
+pub const KINDS: [&str; 6] = ["make", "bus reset", "control", "bulk-out", "bulk-in", "switch"];
 
 impl Event {
     /// Its kind's place in `KINDS`.
@@ -37,6 +38,7 @@ impl Event {
             Event::Control { .. } => 2,
             Event::BulkOut { .. } => 3,
             Event::BulkIn { .. } => 4,
+            Event::Switch { .. } => 5,
         }
     }
 
@@ -45,7 +47,7 @@ impl Event {
             Event::Make { medium, .. } | Event::BulkOut { medium, .. } | Event::BulkIn { medium, .. } => {
                 medium
             }
-            Event::BusReset | Event::Control { .. } => Lent::Own,
+            Event::BusReset | Event::Control { .. } | Event::Switch { .. } => Lent::Own,
         }
     }
 
@@ -87,6 +89,7 @@ impl fmt::Display for Event {
             Event::BulkIn { medium, buffer } => {
                 write!(f, "bulk-in, {medium}, buffer of {} bytes", buffer.length)
             }
+            Event::Switch { position } => write!(f, "switch, position {position}"),
         }
     }
 }

@@ -6,6 +6,7 @@ use crate::large_media::LONGEST;
 use crate::own::{Own, LIMIT, SMALL};
 use crate::random::Random;
 use crate::requests::{self, Setup};
+use crate::switch;
 use ordinary::device::{Identity, BLOCK, MAX_NUMBER, PACKET};
 use ordinary::record::{stage, Record};
 
@@ -13,6 +14,12 @@ use ordinary::record::{stage, Record};
 pub fn next(random: &mut Random, record: &Record, own: &Own) -> Event {
     if record.blocks != own.blocks && random.one_in(3) {
         return Event::Make { identity: identity(random), medium: Lent::Own };
+    }
+    if switch::is_moved(random, record) {
+        return switch::moved(random);
+    }
+    if record.closed() && random.one_in(60) {
+        return reset(random);
     }
     if random.one_in(10) {
         return odd(random, record, own);
@@ -87,6 +94,17 @@ fn proceed(random: &mut Random, record: &Record, own: &Own) -> Event {
         stage::READY | stage::DATA_OUT => send(packet(random, record, &own.marked)),
         _ if record.halt_in() && met => control(random, requests::CLEAR_IN),
         _ => ask(random),
+    }
+}
+
+/// Whatever drops the command. It comes more often while the write switch is closed: none but a making opens it.
+fn reset(random: &mut Random) -> Event {
+    match random.below(5) {
+        0 => Event::Make { identity: identity(random), medium: Lent::Own },
+        1 => Event::BusReset,
+        2 => control(random, requests::MASS_STORAGE_RESET),
+        3 => control(random, requests::SET_CONFIGURATION),
+        _ => control(random, requests::SET_NO_CONFIGURATION),
     }
 }
 

@@ -3,6 +3,7 @@
 use crate::inquiry::PAGES;
 use crate::own::{LIMIT, SMALL};
 use crate::random::Random;
+use crate::switch::{no_position, CLOSED, OPEN};
 use ordinary::device::{BLOCK, MAX_NUMBER, PACKET};
 use ordinary::record::{flag, stage, Record};
 
@@ -18,6 +19,7 @@ pub fn invent(random: &mut Random, own: u32) -> Record {
     record.address = random.below(0x80) as u8;
     record.flags = flags(random);
     set_sense(random, &mut record);
+    record.write_switch = if random.one_in(8) { no_position(random) } else { random.pick(&[OPEN, CLOSED]) };
     if random.one_in(2) {
         random.fill(&mut record.part);
     }
@@ -108,6 +110,7 @@ fn set_command(random: &mut Random, record: &mut Record) {
     }
     match record.stage {
         stage::DATA_OUT => record.value = 64 * random.below(9) as u32 + u32::from(random.one_in(12)),
+        stage::MODE_SENSE => record.value = found(random),
         stage::READ_CAPACITY => record.value = random.pick(&[0, 1, record.blocks, LIMIT, u32::MAX]),
         stage::REQUEST_SENSE => {
             let [key, asc, ascq] = sense(random);
@@ -125,6 +128,15 @@ fn set_command(random: &mut Random, record: &mut Record) {
     let due = record.left.wrapping_mul(scale);
     record.residue = due.wrapping_add(excess(random));
     record.announced = record.residue.wrapping_add(excess(random));
+}
+
+/// The position that Mode Sense found, or a value near one (document 02, A4).
+fn found(random: &mut Random) -> u32 {
+    match random.below(5) {
+        0 => random.pick(&[0, CLOSED.into()]) | 1 << (1 + random.below(31)),
+        1 => random.pick(&[2, 3, 0x100, 0x101, 0x8000_0000, 0x8000_0001, u32::MAX]),
+        _ => random.pick(&[OPEN, CLOSED]).into(),
+    }
 }
 
 /// Sets a product page's code, or a value near one (document 02, A2); gives back a page's size, mostly its own.

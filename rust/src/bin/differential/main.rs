@@ -30,6 +30,12 @@ mod requests;
 mod sense_drop;
 mod sense_history;
 mod sense_record;
+mod switch;
+mod switch_drop;
+mod switch_event;
+mod switch_record;
+mod switch_reply;
+mod switch_write;
 mod table;
 mod trial;
 
@@ -125,11 +131,13 @@ impl Run {
         damage.sizes.print();
         damage.pages.print();
         damage.senses.print();
+        damage.switches.print();
         println!("\ntime: {:.1} s", started.elapsed().as_secs_f64());
         let mut missing = self.coverage.missing();
         missing.extend(self.damage.sizes.missing());
         missing.extend(self.damage.pages.missing());
         missing.extend(self.damage.senses.missing());
+        missing.extend(self.damage.switches.missing());
         if missing.is_empty() {
             Ok(())
         } else {

@@ -49,7 +49,7 @@ impl MediumSizes {
         let kind = match event {
             Event::Make { .. } => Kind::Make,
             Event::BulkOut { .. } | Event::BulkIn { .. } => Kind::Bulk,
-            Event::BusReset | Event::Control { .. } => return,
+            Event::BusReset | Event::Control { .. } | Event::Switch { .. } => return,
         };
         let event = (kind, played.answer.number);
         for ((kind, number, _, holds), count) in SIZES.iter().zip(&mut self.counts) {

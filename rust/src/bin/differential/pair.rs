@@ -136,6 +136,7 @@ fn play_ordinary(side: &mut Ordinary, event: &Event, medium: &mut [u8], buffer: 
         (Event::Control { setup, .. }, Ordinary::Device(device)) => device.control(setup, buffer),
         (Event::BulkOut { packet, .. }, Ordinary::Device(device)) => device.bulk_out(medium, packet),
         (Event::BulkIn { .. }, Ordinary::Device(device)) => device.bulk_in(medium, buffer),
+        (Event::Switch { position }, Ordinary::Device(device)) => device.set_switch(*position),
     };
     CAnswer { number: answer.number(), count: answer.count() as usize }
 }
@@ -147,5 +148,6 @@ fn play_proved(record: &mut Record, event: &Event, medium: &mut [u8], buffer: &m
         Event::Control { setup, .. } => capi::control(record, setup, buffer),
         Event::BulkOut { packet, .. } => capi::bulk_out(record, medium, packet),
         Event::BulkIn { .. } => capi::bulk_in(record, medium, buffer),
+        Event::Switch { position } => capi::set_switch(record, *position),
     }
 }

@@ -2,10 +2,10 @@
 //! or that cuts it in another way, goes wrong.
 
 use crate::block_place::{range, OPERATIONS};
-use crate::coverage::{FAILED, PASSED};
+use crate::coverage::{decide, FAILED, PASSED};
 use crate::table::Table;
 use ordinary::record::Record;
-use ordinary::scsi::{self, code};
+use ordinary::scsi::code;
 use std::ops::RangeInclusive;
 
 /// A verdict, a name, and whether an address and a count are meant in a unit of so many blocks. What failed did so for
@@ -59,7 +59,7 @@ fn unlike_bytes(number: u32) -> bool {
 
 /// Whether a command fails for its range, and so tells a block.
 pub fn fails_for_range(before: &Record, block: &[u8; 16]) -> bool {
-    scsi::decide(block, before.sense(), before.blocks).is_err_and(|sense| sense.is_out_of_range())
+    decide(before, block).is_err_and(|sense| sense.is_out_of_range())
 }
 
 impl RefusedBlocks {

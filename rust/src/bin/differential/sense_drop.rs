@@ -8,11 +8,11 @@ use crate::table::Table;
 use ordinary::record::{stage, Record};
 
 /// A name, and whether an event is meant.
-type Cause = (&'static str, fn(&Event) -> bool);
+pub type Cause = (&'static str, fn(&Event) -> bool);
 /// A name, and whether the state before it is meant.
 type State = (&'static str, fn(&Record) -> bool);
 
-const CAUSES: [Cause; 5] = [
+pub const CAUSES: [Cause; 5] = [
     ("making", |event| matches!(event, Event::Make { .. })),
     ("bus reset", |event| matches!(event, Event::BusReset)),
     ("Mass Storage Reset", |event| requests(event, &MASS_STORAGE_RESET)),

@@ -19,6 +19,7 @@ enum Between {
     Refusal,
     HaltSet,
     HaltCleared,
+    Switch,
     BusReset,
     MassStorageReset,
     SetConfiguration,
@@ -29,13 +30,14 @@ enum Between {
     Passed,
 }
 
-const BETWEEN: [(Between, &str); 14] = [
+const BETWEEN: [(Between, &str); 15] = [
     (Between::Nothing, "nothing"),
     (Between::Nak, "nak"),
     (Between::Stall, "stall"),
     (Between::Refusal, "refusal"),
     (Between::HaltSet, "halt set"),
     (Between::HaltCleared, "halt cleared"),
+    (Between::Switch, "switch set"),
     (Between::BusReset, "bus reset"),
     (Between::MassStorageReset, "Mass Storage Reset"),
     (Between::SetConfiguration, "Set Configuration"),
@@ -72,6 +74,7 @@ impl SenseHistory {
             (_, 3) => Some(Between::Stall),
             (_, 10..) => Some(Between::Refusal),
             (Event::BusReset, _) => Some(Between::BusReset),
+            (Event::Switch { .. }, _) => Some(Between::Switch),
             (Event::Control { setup, .. }, 1) => acked(setup),
             _ => None,
         };

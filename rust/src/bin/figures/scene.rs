@@ -18,6 +18,7 @@ pub enum Input {
     /// So many packets of data one after the other.
     Data(usize),
     Ask,
+    Switch(u8),
 }
 
 impl Input {
@@ -134,5 +135,6 @@ pub fn scenes() -> Vec<Scene> {
             ready,
             Input::Control([0x80, 0x00, 0, 0, 0, 0, 2, 0]),
         ),
+        scene("switch", "write switch, closed", ready, Input::Switch(1)),
     ]
 }

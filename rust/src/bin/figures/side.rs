@@ -12,6 +12,7 @@ pub trait Side: Clone {
     fn control(&mut self, setup: &[u8], buffer: &mut [u8]) -> u32;
     fn bulk_out(&mut self, medium: &mut [u8], packet: &[u8]) -> u32;
     fn bulk_in(&mut self, medium: &[u8], buffer: &mut [u8]) -> u32;
+    fn set_switch(&mut self, position: u8) -> u32;
 }
 
 impl Side for Device {
@@ -29,6 +30,10 @@ impl Side for Device {
 
     fn bulk_in(&mut self, medium: &[u8], buffer: &mut [u8]) -> u32 {
         Device::bulk_in(self, medium, buffer).number()
+    }
+
+    fn set_switch(&mut self, position: u8) -> u32 {
+        Device::set_switch(self, position).number()
     }
 }
 
@@ -48,6 +53,10 @@ impl Side for Record {
 
     fn bulk_in(&mut self, medium: &[u8], buffer: &mut [u8]) -> u32 {
         capi::bulk_in(self, medium, buffer).number
+    }
+
+    fn set_switch(&mut self, position: u8) -> u32 {
+        capi::set_switch(self, position).number
     }
 }
 
@@ -74,6 +83,11 @@ impl Side for Idle {
     fn bulk_in(&mut self, _: &[u8], _: &mut [u8]) -> u32 {
         black_box(self).0.locked().into()
     }
+
+    #[inline(never)]
+    fn set_switch(&mut self, _: u8) -> u32 {
+        black_box(self).0.locked().into()
+    }
 }
 
 /// Plays the input on each device; a refusal or stall would be measured for nothing, so the numbers are summed:
@@ -91,6 +105,7 @@ pub fn play<S: Side>(devices: &mut [S], input: &Input, medium: &mut [u8], buffer
             }
         }),
         Input::Ask => devices.iter_mut().for_each(|device| sum += device.bulk_in(medium, buffer)),
+        Input::Switch(position) => devices.iter_mut().for_each(|device| sum += device.set_switch(*position)),
     }
     sum
 }
