@@ -13,9 +13,9 @@ use std::ops::RangeInclusive;
 type Place = (usize, &'static str, fn(u32, u16, u32) -> bool);
 
 const PLACES: [Place; 10] = [
-    (PASSED, "last block passed", |address, count, blocks| address + 1 == blocks && count == 1),
+    (PASSED, "last block passed", |address, count, blocks| address == blocks - 1 && count == 1),
     (PASSED, "end, count 0, passed", |address, count, blocks| address == blocks && count == 0),
-    (FAILED, "last block, count 2", |address, count, blocks| address + 1 == blocks && count == 2),
+    (FAILED, "last block, count 2", |address, count, blocks| address == blocks - 1 && count == 2),
     (FAILED, "inside", |address, _, blocks| address < blocks),
     (FAILED, "end, count 1", |address, count, blocks| address == blocks && count == 1),
     (FAILED, "1 past, count 0", |address, count, blocks| address == blocks + 1 && count == 0),
