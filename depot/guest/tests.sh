@@ -173,6 +173,7 @@ whole() {
 }
 
 bench_device
+sealed
 # QEMU's uhci does not take a transfer back that waits, so that it would answer a later ask.
 [ "$(cat /depot/controller)" = xhci ] && transport
 # 4200 has the digits of 42, in other places; 4201 differs from it in one digit.
@@ -182,7 +183,7 @@ whole seven 7000000 7
 whole large 4201 4096
 kernel_asks_for_pages 0
 largest && file_system
-filed="000000000042 000000004200 000000004201 000007000000 999999999999"
+filed="000000000024 000000000042 000000004200 000000004201 000007000000 999999999999"
 [ "$(cat /depot/controller)" = xhci ] && filed="000000000000 $filed"
 check clerk-told-all-apart clerk_has "$filed"
 mark "the clerk has a file of each collector"

@@ -11,21 +11,24 @@ from .rules import allocation_length, control_byte, out_of_range, page_code
 # "control bytes" are wrappers whose control byte is not 0: Linux handed the bits on as sg_raw was given them. In the same way
 # "lengths with byte 3" are wrappers of codes 03, 12 and 1A whose byte 3 is not 0, and "reads past 65,535" and the writes are
 # wrappers in range whose last block is at 65,536 or behind it. "refused at" are wrappers out of range, with the block that their sense
-# must name (document 02, A8); "senses with a block" are replies that name one.
-LEAST = {"devices": 6, "bus resets": 10, "failed": 27, "phase errors": 2, "stalls": 44, "control bytes": 6,
+# must name (document 02, A8); "senses with a block" are replies that name one. "turned in a Write" are turns of the switch (document 02,
+# A4) between two packets of data, "senses of the switch" replies with 07/27/00.
+LEAST = {"devices": 8, "bus resets": 13, "failed": 38, "phase errors": 3, "stalls": 55, "control bytes": 7,
          "lengths with byte 3": 7, "reads past 65,535": 17, "writes past 65,535": 5,
          "page 00 whole": 6, "page 80 whole": 6, "page 83 whole": 6, "page 00 cut": 4, "page 80 cut": 4, "page 83 cut": 4,
          "page 80 of 0 bytes": 1, "refused pages": 1, "refused pages of 0 bytes": 1,
+         "closed": 3, "opened": 1, "turned in a Write": 1, "senses of the switch": 9, "Mode Senses with 80": 5, "Write refused at 512": 1,
          "Read refused at 64": 2, "Write refused at 64": 1, "Verify refused at 64": 1, "Read refused at 65": 1,
          "Read refused at 1048576": 2, "Write refused at 1048576": 1, "Verify refused at 1048577": 1,
          "Read refused at 4294967280": 1, "Read refused at 4294967295": 1, "Verify refused at 4294967295": 1,
-         "senses with a block": 12, "failures' senses without": 9}
-LEAST_WITH_PROBE = {"failed": 332, "phase errors": 5, "lengths with byte 3": 9, "naks": 3, "taken back": 2, "mass storage resets": 8,
+         "senses with a block": 13, "failures' senses without": 10}
+LEAST_WITH_PROBE = {"failed": 353, "phase errors": 8, "lengths with byte 3": 9, "naks": 3, "taken back": 2, "mass storage resets": 16,
+                    "closed": 10, "opened": 8, "turned in a Write": 2, "senses of the switch": 18, "Mode Senses with 80": 13,
                     "page 00 of 0 bytes": 1, "page 80 of 0 bytes": 2, "page 83 of 0 bytes": 2, "refused pages of 0 bytes": 254,
-                    "Read refused at 128": 40, "Write refused at 128": 2, "Verify refused at 128": 2, "Read refused at 129": 1,
+                    "Read refused at 128": 41, "Write refused at 128": 2, "Verify refused at 128": 2, "Read refused at 129": 1,
                     "Read refused at 16909060": 1, "Write refused at 4294967169": 1,
                     "Read refused at 4294967295": 2, "Verify refused at 4294967295": 2,
-                    "senses with a block": 29, "cut senses with a block": 17, "failures' senses without": 12}
+                    "senses with a block": 31, "cut senses with a block": 17, "failures' senses without": 13}
 PAGE_SIZES = {code: len(page) for code, page in product_pages(0).items()}  # every number's are as long
 
 
@@ -56,11 +59,20 @@ def sense_kind(data):
     """What Request Sense told, by VALID and the key. None: of no failure."""
     if data[0] & 0x80:
         return "senses with a block" if len(data) == 18 else "cut senses with a block"
-    return "failures' senses without" if data[2:3] == b"\x05" else None
+    return {b"\x05": "failures' senses without", b"\x07": "senses of the switch"}.get(data[2:3])
+
+
+def turns_in_writes(entries):
+    """How often the switch is turned between two packets of data outward."""
+    events = [entry for entry in entries if isinstance(entry, log.Event)]
+    is_data = lambda event: event.kind == 3 and len(event.body) == 64
+    return sum(event.kind == 5 and is_data(before) and is_data(behind) for before, event, behind in zip(events, events[1:], events[2:]))
 
 
 def count(entries):
+    entries = list(entries)
     seen, blocks, block = dict.fromkeys([*LEAST, *LEAST_WITH_PROBE], 0), 0, b""
+    seen["turned in a Write"] = turns_in_writes(entries)
     for entry in entries:
         if isinstance(entry, log.Note):
             seen["devices"] += entry.words[0] == "plugged"
@@ -68,6 +80,8 @@ def count(entries):
             seen["taken back"] += entry.words[0] == "cancelled"
             continue
         seen["bus resets"] += entry.kind == 1
+        seen["closed"] += entry.kind == 5 and entry.body == b"\x01"
+        seen["opened"] += entry.kind == 5 and entry.body == b"\x00"
         seen["mass storage resets"] += entry.kind == 2 and entry.body[:2] == b"\x21\xFF"
         seen["stalls"] += entry.word == "stall"
         seen["naks"] += entry.word == "nak"
@@ -86,6 +100,8 @@ def count(entries):
             seen["phase errors"] += entry.data[12] == 2
         elif entry.kind == 4 and entry.data and block[:1] == b"\x03" and sense_kind(entry.data):
             seen[sense_kind(entry.data)] += 1
+        elif entry.kind == 4 and block[:1] == b"\x1A":
+            seen["Mode Senses with 80"] += entry.data[2:3] == b"\x80"
     return seen
 
 

@@ -115,7 +115,7 @@ def lines(entries):
             if is_cbw(entry.body):
                 sent, block = cbw(entry.body), entry.body[15:]
         else:
-            sent = "ask"
+            sent = "ask" if entry.kind == 4 else "(the switch: %s)" % log.position(entry.body)
         if entry.word == "data":
             answer = csw(entry.data) if entry.kind == 4 and is_csw(entry.data) else reply(entry, block)
         rows.append((entry.time, sent, answer))

@@ -24,7 +24,9 @@ def boot_block(folder):
         return f.read()
 
 
-def play(folder, seed, results, program, wrong):
+def play(folder, seed, results, program, wrong, closed):
+    """Boots once. With the switch closed (document 02, A4) the BIOS cannot write, and the checks' names say `closed`."""
+    check = lambda name, good, detail: results.check(("closed-" if closed else "") + name, good, detail)
     before = Blocks(BLOCKS, boot_block(folder) + random.Random(seed).randbytes((BLOCKS - 1) * BLOCK))
     before.write(os.path.join(folder, "boot.medium"))
     socket = os.path.join(folder, SOCKET)
@@ -34,32 +36,35 @@ def play(folder, seed, results, program, wrong):
     try:
         peer = Peer(program, folder, results.start, wrong)
         peer.order("load boot.medium")
+        if closed:
+            peer.order("switch closed")
         peer.order("plug 42 0000 0000 0000")
-        results.mark("computer switched on, the collector plugged in")
-        hear(machine, before, results)
+        results.mark("computer switched on, the collector plugged in, its switch %s" % ("closed" if closed else "open"))
+        hear(machine, before, check, closed)
+        results.mark("booted from the collector, blocks read and %s" % ("not written" if closed else "written"))
         peer.order("save boot.saved")
         saved, after = blocks.read(os.path.join(folder, "boot.saved")), before.copy()
-        after.put(WRITTEN.start, before.get(READ.start, len(READ)))
-        results.check("written-outside", saved == after, "changed: " + " ".join(map(str, before.changed(saved))))
+        if not closed:
+            after.put(WRITTEN.start, before.get(READ.start, len(READ)))
+        check("written-outside", saved == after, "changed: " + (" ".join(map(str, before.changed(saved))) or "none"))
     except queue.Empty:
-        results.check("computer-answers", False, "silent for %d seconds" % SILENCE)
+        check("computer-answers", False, "silent for %d seconds" % SILENCE)
     except Refused as fault:
-        results.check(fault.check, False, str(fault))
+        check(fault.check, False, str(fault))
     finally:
         machine.stop()
         if peer:
             complaint = peer.stop()
-            results.check("device-refused-nothing", not complaint, complaint or "no event brought a number of 10 and over")
+            check("device-refused-nothing", not complaint, complaint or "no event brought a number of 10 and over")
         if os.path.exists(socket):
             os.unlink(socket)
 
 
-def hear(machine, before, results):
+def hear(machine, before, check, closed):
     line = machine.line(SILENCE)
-    results.check("boots", line == "booted", "the boot block runs" if line == "booted" else repr(line))
+    check("boots", line == "booted", "the boot block runs" if line == "booted" else repr(line))
     for block in READ:
         line = machine.line(SILENCE)
-        results.check("reads-block-%d" % block, line == before.get(block, 1).hex().upper(), "%d digits" % len(line or ""))
+        check("reads-block-%d" % block, line == before.get(block, 1).hex().upper(), "%d digits" % len(line or ""))
     line = machine.line(SILENCE)
-    results.check("writes", line == "end", "no error")
-    results.mark("booted from the collector, blocks read and written")
+    check("writes", line == ("refused" if closed else "end"), "the BIOS tells of %s error" % ("an" if line == "refused" else "no"))

@@ -1,7 +1,8 @@
 """The peer's log of events, read again."""
 from collections import namedtuple
 
-KINDS = {"reset": 1, "setup": 2, "out": 3, "in": 4}
+KINDS = {"reset": 1, "setup": 2, "out": 3, "in": 4, "switch": 5}
+POSITIONS = {"open": b"\x00", "closed": b"\x01"}  # of the switch (document 02, A4), in words as in the recordings' text form
 
 # kind and body as in a recording; word is the answer's (ack, nak, stall, silent, data, refused), data its bytes.
 Event = namedtuple("Event", "time kind body word data")
@@ -13,6 +14,11 @@ def octets(words):
     return b"" if words == ["none"] else bytes.fromhex("".join(words))
 
 
+def position(body):
+    """The word for a switch event's body."""
+    return next(word for word, octet in POSITIONS.items() if octet == body)
+
+
 def read(path):
     with open(path, encoding="ascii") as f:
         for line in f:
@@ -22,7 +28,8 @@ def read(path):
                 continue
             event, _, answer = rest.partition(" -> ")
             (name, *body), (word, *data) = event.split(" "), answer.split(" ")
-            yield Event(float(time), KINDS[name], octets(body), word, octets(data) if word == "data" else b"")
+            body = POSITIONS[body[0]] if name == "switch" else octets(body)
+            yield Event(float(time), KINDS[name], body, word, octets(data) if word == "data" else b"")
 
 
 def blocks(note):

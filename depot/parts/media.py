@@ -47,6 +47,27 @@ class SparseMedium(Medium):
         return out
 
 
+class SealedMedium:
+    """A medium of zeros, of which the guest makes a file system before the switch is closed (document 02, A4).
+
+    `writes` are the (block, count) that pass afterwards, behind the file; each takes the first bytes of `data`.
+    """
+
+    def __init__(self, chance, count, writes):
+        self.before, self.writes = Blocks(count), writes
+        self.data = chance.randbytes(BLOCK * max(count for _, count in writes))
+
+    def files(self, name):
+        return [(name + ".data", self.data)]
+
+    def written(self, formatted):
+        """What the writes make of the file system's blocks."""
+        after = formatted.copy()
+        for block, count in self.writes:
+            after.put(block, self.data[:count * BLOCK])
+        return after
+
+
 def largest(chance):
     """Zeros, but for places filled at random: the ends, the blocks where an address of 12 or 16 bits would begin anew, others."""
     others = [(block, 1) for block in sorted(chance.sample(range(65538, LARGEST - 2), 6))]
@@ -61,11 +82,13 @@ def media(seed):
     return {
         # The bench's 64 zero blocks. First and last block are always among the written ones.
         "bench": Medium(chance, Blocks(64), [(0, 1), *((block, 1) for block in some(64, 3)), (63, 1)]),
-        # The 128 blocks of the bench sheet and of document 02, A8. The probe sends more of the data than it may get stored: block 5 only.
-        "transport": Medium(chance, filled(128), [(5, 1)], spare=1),
+        # The 128 blocks of the bench sheet and of document 02, A8. The probe sends more of the data than it may get stored.
+        "transport": Medium(chance, filled(128), [(5, 1), (20, 2)], spare=1),
         "one": Medium(chance, filled(1), [(0, 1)]),
         "seven": Medium(chance, filled(7), [(0, 3), (6, 1)]),
         "large": Medium(chance, filled(4096), [(0, 1), *((block, 1) for block in some(4000, 6)), (4032, 64)]),
+        # As guest/switch.sh writes: one command, the disk's last 4,096 bytes, and the Write in whose middle the switch is closed.
+        "sealed": SealedMedium(chance, 512, [(400, 1), (504, 8), (440, 32)]),
         # The last one, so that the others' blocks do not depend on how many random ones it takes.
         "largest": largest(chance),
     }

@@ -7,11 +7,12 @@ from .machine import SOCKET
 
 
 class Refused(Exception):
-    """The peer did not do what it was ordered to. `check` is what fails by it: a device that is not made is no fault of the peer's."""
+    """The peer did not do what it was ordered to. `check` is what fails by it: a device that is not made, or whose switch does not turn,
+    is no fault of the peer's."""
 
     def __init__(self, order, why):
         super().__init__("%s: %s" % (order, why))
-        self.check = "device-made" if why.startswith("making") else "peer"
+        self.check = {"making": "device-made", "turning": "switch-turned"}.get(why.split(" ")[0], "peer")
 
 
 class Peer:

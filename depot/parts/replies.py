@@ -4,7 +4,6 @@ import struct
 CONFIGURATION = bytes.fromhex("09 02 20 00 01 01 00 C0 00  09 04 00 00 02 08 06 50 00  07 05 81 02 40 00 00  07 05 02 02 40 00 00")
 LANGUAGES = bytes.fromhex("04 03 09 04")
 INQUIRY = bytes.fromhex("00 80 05 02 1F 00 00 00") + b"COLLECT " + b"METER EXPORT    " + b"0100"
-MODE_SENSE = bytes.fromhex("03 00 00 00")
 
 
 def device_descriptor(vendor, product, release):
@@ -34,6 +33,11 @@ def fixed_sense(key, code, qualifier, block=None):
     """Request Sense's 18 bytes. `block` is the first outside the unit, of a range failure: INFORMATION, with VALID set (document 02, A8)."""
     valid, information = (0x00, 0) if block is None else (0x80, block)
     return struct.pack(">BxBIB4xBB4x", valid | 0x70, key, information, 0x0A, code, qualifier)
+
+
+def mode_sense(closed):
+    """The third byte shows the switch (document 02, A4)."""
+    return bytes([0x03, 0x00, 0x80 if closed else 0x00, 0x00])
 
 
 def capacity(blocks):

@@ -1,16 +1,17 @@
-"""Document 01, with document 02's landed requests (A1, A2, A5, A8, A12), once more, in Python and from the papers alone: what a collector
-answers to each event, and what its medium then is.
+"""Document 01, with document 02's landed requests (A1, A2, A4, A5, A8, A12), once more, in Python and from the papers alone: what a
+collector answers to each event, and what its medium then is.
 
 A run's log is held to it event by event, so that what the guest does not notice (a residue, a halt, an answer to a request
-that Linux ignores) is looked at too. Only what a bus can bring is here: the refusals 10 to 17 are not.
+that Linux ignores) is looked at too. Only what a bus and a hand at the switch can bring is here: the refusals 10 to 17 are not.
 """
 import struct
 
 from .blocks import BLOCK
-from .replies import CONFIGURATION, INQUIRY, LANGUAGES, MODE_SENSE, capacity, device_descriptor, fixed_sense, product_pages, serial, utf16
+from .replies import CONFIGURATION, INQUIRY, LANGUAGES, capacity, device_descriptor, fixed_sense, mode_sense, product_pages, serial, utf16
 
 PACKET = 64
 NO_SENSE, INVALID_CODE, INVALID_FIELD, PHASE_SENSE = (0, 0, 0), (5, 0x20, 0), (5, 0x24, 0), (0x0B, 0x4B, 0)
+WRITE_PROTECTED = (7, 0x27, 0)  # document 02, A4
 PASSED, FAILED, PHASE_ERROR = 0, 1, 2
 BLOCK_LENGTHS = {0x00: 6, 0x03: 6, 0x12: 6, 0x1A: 6, 0x1E: 6, 0x25: 10, 0x28: 10, 0x2A: 10, 0x2F: 10}
 REFUSED_CONTROL_BITS = 0x07  # document 02, A12: bits 0 (LINK), 1 and 2 (NACA)
@@ -47,6 +48,7 @@ class Collector:
             (0x0301, 0x0409): utf16("COLLECT"), (0x0302, 0x0409): utf16("METER EXPORT"), (0x0303, 0x0409): utf16(serial(number)),
         }
         self.pages = product_pages(number)
+        self.closed = False  # the switch, which no reset moves
         self.bus_reset()
 
     def event(self, kind, body):
@@ -58,7 +60,14 @@ class Collector:
                 return self.control(body)
             case 3:
                 return self.bulk_out(body)
-        return self.bulk_in()
+            case 4:
+                return self.bulk_in()
+        return self.turn(body)
+
+    def turn(self, position):
+        """The switch (document 02, A4). A command under way keeps what it found at its wrapper: a Write's place, Mode Sense's reply."""
+        self.closed = position == b"\x01"
+        return "ack", b""
 
     # Control
 
@@ -217,7 +226,7 @@ class Collector:
                 reply = self.inquiry(block)
                 return given(reply is not None, cut(reply or b""))
             case 0x1A:
-                return given(block[2] == 0x3F, cut(MODE_SENSE))
+                return given(block[2] == 0x3F, cut(mode_sense(self.closed)))
             case 0x1E:
                 return given(not block[4] & 1, none)
             case 0x25:
@@ -227,6 +236,8 @@ class Collector:
                     return INVALID_FIELD, *none
                 if address + count > self.medium.count:
                     return out_of_range(address, self.medium.count), *none
+                if code == 0x2A and self.closed:
+                    return WRITE_PROTECTED, *none
                 if code == 0x2F or not count:
                     return NO_SENSE, *none
                 return NO_SENSE, *(sent(self.medium.get(address, count)) if code == 0x28 else ("out", count * BLOCK, address))

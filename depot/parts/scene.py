@@ -7,7 +7,7 @@ from . import blocks, initramfs, packages
 from .machine import Machine, SOCKET, linux
 from .media import media, meter_csv
 from .peer import Peer, Refused
-from .replies import INQUIRY, MODE_SENSE, fixed_sense, product_pages
+from .replies import INQUIRY, fixed_sense, mode_sense, product_pages
 
 SILENCE = 60  # seconds in which a guest that lives says something
 END = "end"
@@ -25,7 +25,7 @@ class Scene:
 
     def prepare(self, controller):
         files = [("meter.csv", self.csv), ("probe", initramfs.read(self.probe)), ("controller", controller.encode())]
-        files += [("inquiry", INQUIRY), ("no-sense", fixed_sense(0, 0, 0)), ("mode-sense", MODE_SENSE)]
+        files += [("inquiry", INQUIRY), ("no-sense", fixed_sense(0, 0, 0)), ("mode-sense", mode_sense(False))]
         files += [("page-%02X" % code, page) for code, page in product_pages(42).items()]  # of the bench's device
         for name, medium in self.media.items():
             files += medium.files(name)
@@ -78,8 +78,8 @@ class Scene:
             if words[1] != "same":
                 peer.order("load %s.medium" % words[1])
             peer.order("plug " + " ".join(words[2:]))
-        elif words[0] == "unplug":
-            peer.order("unplug")
+        elif words[0] in ("unplug", "switch"):
+            peer.order(" ".join(words))
         elif words[0] == "save":
             peer.order("save %s.saved" % words[1])
             self.look_outside(words[1])
@@ -87,17 +87,22 @@ class Scene:
     def look_outside(self, name):
         """The peer's medium, which the guest cannot see, is compared with what the run's own numbers make it."""
         saved = blocks.read(self.path(name + ".saved"))
-        if name == "file-system":
-            self.look_for_csv(saved)
-            return
-        medium = self.media[name]
-        changed = medium.before.changed(saved)
-        detail = "changed: " + (" ".join(map(str, changed[:8])) + (" and %d more" % (len(changed) - 8) if len(changed) > 8 else ""))
-        self.results.check(name + "-outside", saved == medium.after, detail)
+        if name in ("file-system", "sealed"):
+            self.look_for_csv(name, saved)
+        elif name.startswith("sealed-"):
+            formatted = blocks.read(self.path("sealed.saved"))
+            self.compare(name, formatted, self.media["sealed"].written(formatted) if name == "sealed-opened" else formatted, saved)
+        else:
+            self.compare(name, self.media[name].before, self.media[name].after, saved)
 
-    def look_for_csv(self, saved):
+    def compare(self, name, before, expected, saved):
+        changed = before.changed(saved)
+        detail = "changed: " + (" ".join(map(str, changed[:8])) + (" and %d more" % (len(changed) - 8) if len(changed) > 8 else "") or "none")
+        self.results.check(name + "-outside", saved == expected, detail)
+
+    def look_for_csv(self, name, saved):
         """A directory entry has the name in its first 11 bytes and the size in its last 4. No block of the CSV is zero: it is in one run."""
         entry = re.compile(b"METER   CSV.{17}" + re.escape(len(self.csv).to_bytes(4, "little")), re.DOTALL)
         runs = saved.runs()
         good = any(entry.search(run) for run in runs) and any(self.csv in run for run in runs)
-        self.results.check("csv-outside", good, "directory entry and %d bytes of the CSV on the medium" % len(self.csv))
+        self.results.check(name + "-csv-outside", good, "directory entry and %d bytes of the CSV on the medium" % len(self.csv))

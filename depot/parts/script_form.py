@@ -3,6 +3,7 @@ import os
 import struct
 import sys
 
+from . import log
 from .decode import is_cbw, is_csw
 from .places import DEPOT
 from .rules import allocation_length, control_byte
@@ -56,6 +57,8 @@ def event(entry):
     """The shortest form that reads back to the event."""
     if entry.kind in (1, 4):
         return "reset" if entry.kind == 1 else "in"
+    if entry.kind == 5:
+        return "switch " + log.position(entry.body)
     forms = [form for form in (setup(entry.body) if entry.kind == 2 else cbw(entry.body) if is_cbw(entry.body) else ()) if form]
     for form in [*forms, "out " + octets(entry.body)]:
         try:

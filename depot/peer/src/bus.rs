@@ -1,8 +1,9 @@
 //! The bus: the host's transfers, cut into the packets that a full-speed bus would carry, and put to the device one by one.
 
 use crate::collector::{Answer, Collector, Event, PACKET};
-use crate::log::Log;
+use crate::log::{answer_text, Log};
 use crate::redir::{Bulk, Control, Status};
+use crate::switch::Position;
 use std::collections::VecDeque;
 
 /// A bulk transfer under way. `done` counts the bytes that went; `data` holds them where they came in.
@@ -23,13 +24,15 @@ pub struct Bus {
     device: Collector,
     inward: VecDeque<Transfer>,
     outward: VecDeque<Transfer>,
+    /// Where the switch is to go, and how many more packets outward come first.
+    turn: Option<(Position, usize)>,
     /// The first refusal, if the device ever gave one: its number and count.
     pub refused: Option<(u32, usize)>,
 }
 
 impl Bus {
     pub fn new(device: Collector) -> Self {
-        Bus { device, inward: VecDeque::new(), outward: VecDeque::new(), refused: None }
+        Bus { device, inward: VecDeque::new(), outward: VecDeque::new(), turn: None, refused: None }
     }
 
     pub fn medium(&self) -> &[u8] {
@@ -48,6 +51,29 @@ impl Bus {
             self.refused.get_or_insert((number, count));
         }
         answer
+    }
+
+    /// Turns the switch, which nothing on the bus can do.
+    pub fn switch(&mut self, position: Position, log: &mut Log) -> Result<(), String> {
+        match self.put(Event::Switch(position), log) {
+            Answer::Ack => Ok(()),
+            answer => Err(format!("turning was answered: {}", answer_text(&answer))),
+        }
+    }
+
+    /// Turns the switch once the device has taken so many more packets outward: in the middle of a Write, if it is one.
+    pub fn switch_after(&mut self, position: Position, packets: usize) {
+        self.turn = Some((position, packets));
+    }
+
+    /// The device has taken a packet outward.
+    fn count(&mut self, log: &mut Log) {
+        match self.turn.take() {
+            Some((position, 1)) => {
+                self.put(Event::Switch(position), log);
+            }
+            turn => self.turn = turn.map(|(position, packets)| (position, packets - 1)),
+        }
     }
 
     /// A bus reset ends the transfers under way.
@@ -119,7 +145,10 @@ impl Bus {
             let rest = &transfer.asked.data[transfer.done..];
             let packet = &rest[..rest.len().min(PACKET)];
             match self.put(Event::Out(packet), log) {
-                Answer::Ack => transfer.done += packet.len(),
+                Answer::Ack => {
+                    transfer.done += packet.len();
+                    self.count(log);
+                }
                 Answer::Nak => return None,
                 Answer::Stall => return Some(Status::Stall),
                 Answer::Data(_) | Answer::Silent | Answer::Refused { .. } => return Some(Status::IoError),

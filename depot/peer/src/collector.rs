@@ -1,4 +1,6 @@
-//! The collector's C interface: one device over one medium, and the four events of its bus.
+//! The collector's C interface: one device over one medium, the four events of its bus, and its switch.
+
+use crate::switch::Position;
 
 /// The packets' size: document 01 has no other.
 pub const PACKET: usize = 64;
@@ -52,6 +54,7 @@ extern "C" {
         buffer: *mut u8,
         buffer_len: usize,
     ) -> RawAnswer;
+    fn collector_set_switch(record: *mut Record, position: u8) -> RawAnswer;
 }
 
 /// The numbers given at making.
@@ -63,12 +66,13 @@ pub struct Identity {
     pub release: u16,
 }
 
-/// One thing that the bus brings.
+/// One thing that the bus brings, or a hand at the switch (document 02, A4).
 pub enum Event<'a> {
     Reset,
     Setup([u8; 8]),
     Out(&'a [u8]),
     In,
+    Switch(Position),
 }
 
 /// Document 01's "Numbers that come back", as far as a bus can see them.
@@ -140,6 +144,7 @@ impl Collector {
                     buffer.as_mut_ptr(),
                     buffer.len(),
                 ),
+                Event::Switch(position) => collector_set_switch(record, *position as u8),
             }
         };
         match (raw.number, raw.count) {

@@ -1,4 +1,4 @@
-//! The log of events: one line for each thing that the bus brought, with its time and the device's answer.
+//! The log of events: one line for each thing that the bus brought, and for each turn of the switch, with its time and the device's answer.
 //! An event is written as the repository's recordings write it (tools/script.py), so that a run can become a recording.
 
 use crate::collector::{Answer, Event, Identity};
@@ -25,6 +25,7 @@ pub fn event_text(event: &Event) -> String {
         Event::Setup(bytes) => format!("setup{}", hex(bytes)),
         Event::Out(packet) => format!("out{}", hex(packet)),
         Event::In => "in".into(),
+        Event::Switch(position) => format!("switch {}", position.name()),
     }
 }
 

@@ -4,6 +4,8 @@
 //!         load FILE                               a medium, its length setting the number of blocks
 //!         plug NUMBER VENDOR PRODUCT RELEASE      a newly made device over the medium (decimal; then hex)
 //!         unplug                                  the device is gone, the medium stays
+//!         switch open|closed                      turns the switch: of the device, or of the next one before it is plugged in
+//!         switch open|closed after PACKETS        turns it once the device has taken so many more packets outward
 //!         save FILE                               the medium as it stands
 //!     peer play                       plays the recording on standard input, and prints its answers
 //!
@@ -16,6 +18,7 @@ mod medium;
 mod play;
 mod redir;
 mod serve;
+mod switch;
 
 #[cfg(feature = "wrong")]
 use wrong as _;

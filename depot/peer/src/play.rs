@@ -1,6 +1,7 @@
 //! Plays a bench recording on the linked device, and prints what document 01's "The bench recording" prints.
 
 use crate::collector::{Answer, Collector, Event, Identity};
+use crate::switch::Position;
 use std::io::{Read, Write};
 
 const LONGEST: usize = 16_384;
@@ -26,6 +27,7 @@ fn parse(bytes: &[u8]) -> Option<Vec<Event<'_>>> {
             (2, 8) => Event::Setup(part.try_into().ok()?),
             (3, 0..=64) => Event::Out(part),
             (4, 0) => Event::In,
+            (5, 1) => Event::Switch(Position::numbered(part[0])?),
             _ => return None,
         });
         body += length;

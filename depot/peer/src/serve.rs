@@ -5,7 +5,9 @@ use crate::collector::{Collector, Identity};
 use crate::log::Log;
 use crate::medium;
 use crate::redir::{self, Packet, Status};
+use crate::switch::Position;
 use std::io::{self, BufRead, Write};
+use std::num::NonZeroUsize;
 use std::os::unix::net::UnixStream;
 use std::sync::mpsc::{self, Sender};
 use std::thread;
@@ -22,6 +24,8 @@ struct Peer {
     log: Log,
     bus: Option<Bus>,
     medium: Vec<u8>,
+    /// Where the next device's switch is before that is plugged in; None: as made.
+    switch: Option<Position>,
     /// An unplugging is done once QEMU has said that it saw it: then no transfer of the old device is on its way any more.
     unplugging: bool,
 }
@@ -33,7 +37,8 @@ pub fn serve(socket: &str, path: &str, start: &str) -> io::Result<()> {
     let (sender, receiver) = mpsc::channel();
     read_packets(stream.try_clone()?, sender.clone());
     read_orders(sender);
-    let mut peer = Peer { stream, log: Log::new(path, start)?, bus: None, medium: vec![], unplugging: false };
+    let log = Log::new(path, start)?;
+    let mut peer = Peer { stream, log, bus: None, medium: vec![], switch: None, unplugging: false };
     for input in receiver {
         match input {
             Input::Packet(packet) => peer.packet(packet)?,
@@ -78,6 +83,10 @@ fn say(text: &str) -> io::Result<()> {
     out.flush()
 }
 
+fn named(position: &str) -> Result<Position, String> {
+    Position::named(position).ok_or_else(|| format!("{position} is no position"))
+}
+
 impl Peer {
     fn order(&mut self, line: &str) -> io::Result<()> {
         let words: Vec<&str> = line.split(' ').collect();
@@ -85,6 +94,8 @@ impl Peer {
             ["load", path] => self.load(path),
             ["plug", number, vendor, product, release] => self.plug(number, vendor, product, release),
             ["unplug"] if self.bus.is_some() => return self.unplug(),
+            ["switch", position] => self.switch(position),
+            ["switch", position, "after", packets] => self.switch_after(position, packets),
             ["save", path] => {
                 self.log.note(&format!("saved {path}"));
                 let medium = self.bus.as_ref().map_or(&self.medium[..], Bus::medium);
@@ -118,7 +129,11 @@ impl Peer {
         match Collector::make(identity, std::mem::take(&mut self.medium)) {
             Ok(device) => {
                 self.log.plugged(identity, device.medium().len() / 512);
-                self.bus = Some(Bus::new(device));
+                let mut bus = Bus::new(device);
+                let turned =
+                    self.switch.take().map_or(Ok(()), |position| bus.switch(position, &mut self.log));
+                self.bus = Some(bus);
+                turned?;
                 let connect = redir::device_connect(identity.vendor, identity.product, identity.release);
                 self.tell(redir::INTERFACE_INFO, 0, &redir::interface_info())
                     .and_then(|()| self.tell(redir::EP_INFO, 0, &redir::ep_info()))
@@ -131,6 +146,25 @@ impl Peer {
                 Err(format!("making over {blocks} blocks was refused with {refused}"))
             }
         }
+    }
+
+    fn switch(&mut self, position: &str) -> Result<(), String> {
+        let position = named(position)?;
+        match &mut self.bus {
+            Some(bus) => bus.switch(position, &mut self.log),
+            None => {
+                self.switch = Some(position);
+                Ok(())
+            }
+        }
+    }
+
+    fn switch_after(&mut self, position: &str, packets: &str) -> Result<(), String> {
+        let packets: NonZeroUsize =
+            packets.parse().map_err(|_| format!("{packets} is no number of packets"))?;
+        let bus = self.bus.as_mut().ok_or("no device is plugged in")?;
+        bus.switch_after(named(position)?, packets.get());
+        Ok(())
     }
 
     fn unplug(&mut self) -> io::Result<()> {

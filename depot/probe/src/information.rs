@@ -8,21 +8,30 @@ use crate::bot::{
 use crate::usbfs::EPIPE;
 use crate::{ends_with, equal, passes, Outcome, Probe};
 
-const BLOCKS: u32 = 128;
-const SENSE: usize = 18;
+pub const BLOCKS: u32 = 128;
+pub const SENSE: usize = 18;
 const INVALID_CODE: u8 = 0x20;
 const INVALID_FIELD: u8 = 0x24;
 
-type Step = Result<(), String>;
+pub type Step = Result<(), String>;
+
+/// Whatever drops the command. After the port's reset the kernel sets the configuration again.
+pub const DROPS: [fn(&Probe) -> Step; 5] = [
+    |probe| passes("Mass Storage Reset", mass_storage_reset(&probe.device)),
+    |probe| passes("Set Configuration", probe.device.control(0x00, 0x09, 1, 0, 0).map(|_| ())),
+    Probe::phase_error,
+    Probe::broken_wrapper,
+    |probe| passes("port reset", probe.device.reset_without_driver()),
+];
 
 /// Request Sense's bytes after a range failure: VALID in byte 0, and INFORMATION.
-fn out_of_range(block: u32) -> [u8; SENSE] {
+pub fn out_of_range(block: u32) -> [u8; SENSE] {
     let [a, b, c, d] = block.to_be_bytes();
     [0xF0, 0, 5, a, b, c, d, 0x0A, 0, 0, 0, 0, 0x21, 0, 0, 0, 0, 0]
 }
 
 /// Any other sense has neither.
-fn other(key: u8, code: u8) -> [u8; SENSE] {
+pub fn other(key: u8, code: u8) -> [u8; SENSE] {
     [0x70, 0, key, 0, 0, 0, 0, 0x0A, 0, 0, 0, 0, code, 0, 0, 0, 0, 0]
 }
 
@@ -38,12 +47,12 @@ impl Probe {
     }
 
     /// Document 02's example: address 120, count 10, 128 blocks.
-    fn range_failure(&self, tag: u32) -> Step {
+    pub fn range_failure(&self, tag: u32) -> Step {
         self.ends(tag, &read_10(120, 10), 1)
     }
 
     /// Request Sense with this allocation length brings these bytes, which are all that it announces.
-    fn request_sense(&self, tag: u32, most: u8, expected: &[u8]) -> Step {
+    pub fn request_sense(&self, tag: u32, most: u8, expected: &[u8]) -> Step {
         let wrapper = cbw(tag, expected.len() as u32, true, 0, &[0x03, 0, 0, 0, most, 0]);
         passes("a wrapper", self.device.bulk_out(&wrapper, None))?;
         if !expected.is_empty() {
@@ -53,7 +62,7 @@ impl Probe {
         equal("status", &passes("status", self.device.bulk_in(13, None))?, &csw(tag, 0, 0))
     }
 
-    fn no_sense(&self, tag: u32) -> Step {
+    pub fn no_sense(&self, tag: u32) -> Step {
         self.request_sense(tag, SENSE as u8, &other(0, 0))
     }
 
@@ -154,16 +163,9 @@ impl Probe {
         passes("reset recovery", recover(&self.device))
     }
 
-    /// Each drop of the command takes it away. After the port's reset the kernel sets the configuration again.
+    /// Each drop of the command takes it away.
     pub fn information_after_drops(&self) -> Outcome {
-        let drops: [fn(&Probe) -> Step; 5] = [
-            |probe| passes("Mass Storage Reset", mass_storage_reset(&probe.device)),
-            |probe| passes("Set Configuration", probe.device.control(0x00, 0x09, 1, 0, 0).map(|_| ())),
-            Probe::phase_error,
-            Probe::broken_wrapper,
-            |probe| passes("port reset", probe.device.reset_without_driver()),
-        ];
-        for (n, dropped) in (0..).zip(drops) {
+        for (n, dropped) in (0..).zip(DROPS) {
             let tag = 0x840 + 2 * n;
             self.range_failure(tag)?;
             dropped(self)?;

@@ -1,11 +1,13 @@
 //! What Linux's own driver never sends, sent to the collector from inside the guest: `probe DEVICE BEFORE DATA`.
 //!
 //! DEVICE is the device's file under /dev/bus/usb, BEFORE its medium, DATA the bytes to write: block 5 is to get the first 512
-//! of them, and no other block may change. Prints a line for each check: its name, `ok` or `FAILED`, and what was seen.
+//! of them, blocks 20 and 21 the next 1,024, and no other block may change. Prints a line for each check: its name, `ok` or
+//! `FAILED`, and what was seen.
 
 mod bot;
 mod information;
 mod pages;
+mod switch;
 mod usbfs;
 
 use bot::{
@@ -184,7 +186,7 @@ impl Probe {
 fn run(path: &str, before: &str, data: &str) -> Result<()> {
     let probe =
         Probe { device: Device::open(path)?, before: std::fs::read(before)?, data: std::fs::read(data)? };
-    let checks: [(&str, Check); 21] = [
+    let checks: [(&str, Check); 26] = [
         ("early-ask", Probe::early_ask),
         ("waiting-ask", Probe::waiting_ask),
         ("early-wrapper", Probe::early_wrapper),
@@ -205,6 +207,11 @@ fn run(path: &str, before: &str, data: &str) -> Result<()> {
         ("reset-in-read", Probe::reset_in_read),
         ("reset-in-write", Probe::reset_in_write),
         ("short-packet-in-write", Probe::short_packet),
+        ("switch-in-mode-sense", Probe::switch_in_mode_sense),
+        ("switch-in-refused-write", Probe::switch_in_refused_write),
+        ("switch-in-write", Probe::switch_in_write),
+        ("switch-drops-nothing", Probe::switch_drops_nothing),
+        ("switch-and-resets", Probe::switch_and_resets),
         ("port-reset-in-write", Probe::port_reset_in_write),
     ];
     for (name, check) in checks {

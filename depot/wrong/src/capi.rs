@@ -1,4 +1,4 @@
-//! The five functions of the C interface over the ordinary device.
+//! The six functions of the C interface over the ordinary device.
 
 use crate::device::{Answer, Device, Identity, Refusal};
 use crate::fault;
@@ -105,4 +105,13 @@ pub unsafe extern "C" fn collector_bulk_in(
     let before = *record;
     let answer = fault::send(medium, |medium| event(record, |device| device.bulk_in(medium, buffer)));
     fault::bulk_in(&before, record, buffer, answer)
+}
+
+/// # Safety
+/// As of `collector_make`.
+#[no_mangle]
+pub unsafe extern "C" fn collector_set_switch(record: &mut Record, position: u8) -> CAnswer {
+    let answer = event(record, |device| device.set_switch(position));
+    fault::set_switch(record);
+    answer
 }

@@ -3,6 +3,7 @@
 
 mod information;
 mod pages;
+mod switch;
 
 use crate::capi::CAnswer;
 use crate::device::{Device, Refusal};
@@ -82,9 +83,21 @@ pub enum Fault {
     Wrap4096,
     /// Blocks are read and written at their address modulo 65,536: it is kept in 16 bits.
     Wrap65536,
+    /// Mode Sense does not know of the switch: its third byte is always 00 (document 02, A4).
+    SwitchUnseen,
+    /// The switch is checked before the range.
+    SwitchFirst,
+    /// A bus reset opens the switch.
+    SwitchBusReset,
+    /// A Mass Storage Reset opens the switch.
+    SwitchStorageReset,
+    /// A Write under way fails where the switch is closed in its middle.
+    SwitchCuts,
+    /// Mode Sense shows where the switch is when its bytes are sent.
+    SwitchAtAsk,
 }
 
-const NAMES: [(&str, Fault); 30] = [
+const NAMES: [(&str, Fault); 36] = [
     ("none", Fault::None),
     ("digits", Fault::Digits),
     ("capacity", Fault::Capacity),
@@ -115,6 +128,12 @@ const NAMES: [(&str, Fault); 30] = [
     ("byte-order", Fault::ByteOrder),
     ("wrap-4096", Fault::Wrap4096),
     ("wrap-65536", Fault::Wrap65536),
+    ("switch-unseen", Fault::SwitchUnseen),
+    ("switch-first", Fault::SwitchFirst),
+    ("switch-bus-reset", Fault::SwitchBusReset),
+    ("switch-storage-reset", Fault::SwitchStorageReset),
+    ("switch-cuts", Fault::SwitchCuts),
+    ("switch-at-ask", Fault::SwitchAtAsk),
 ];
 
 /// What a record cannot hold: that a reset came while the device was locked, a block that a reset found half full, a medium of its own.
@@ -204,12 +223,16 @@ fn dropped(before: &Record, record: &Record) {
     }
 }
 
-pub fn bus_reset(before: &Record, record: &Record) {
+pub fn bus_reset(before: &Record, record: &mut Record) {
     match chosen() {
         Fault::LockStays if before.locked() => LOCK_STAYS.store(true, Ordering::Relaxed),
         Fault::PartStored => dropped(before, record),
-        _ => {}
+        _ => switch::bus_reset(record),
     }
+}
+
+pub fn set_switch(record: &mut Record) {
+    switch::turned(record);
 }
 
 pub fn control(
@@ -235,7 +258,7 @@ pub fn control(
         Fault::Digits if answer.count == 26 && setup[..6] == [0x80, 0x06, 0x03, 0x03, 0x09, 0x04] => {
             return CAnswer { number: DATA, count: without_zeros(buffer) };
         }
-        _ => {}
+        _ => switch::control(record, setup),
     }
     answer
 }
@@ -274,6 +297,7 @@ pub fn bulk_out(record: &mut Record, packet: &[u8]) {
         _ => {
             pages::begin(record);
             information::begin(record, packet);
+            switch::begin(record, packet);
         }
     }
 }
@@ -299,6 +323,7 @@ pub fn bulk_in(before: &Record, record: &mut Record, buffer: &mut [u8], answer: 
         _ => {
             pages::send(before, &mut buffer[..answer.count]);
             information::send(before, &mut buffer[..answer.count]);
+            switch::send(before, &mut buffer[..answer.count]);
         }
     }
     answer

@@ -1,4 +1,4 @@
-//! Wrong devices: the ordinary device of ../../rust behind the five functions of the C interface, with one fault.
+//! Wrong devices: the ordinary device of ../../rust behind the six functions of the C interface, with one fault.
 //!
 //! The fault is named by the environment's DEPOT_WRONG; without it the device is right. A run of the depot that a fault does
 //! not fail does not look at what the fault breaks.
@@ -21,6 +21,8 @@ mod pages;
 mod record;
 #[path = "../../../rust/src/scsi.rs"]
 mod scsi;
+#[path = "../../../rust/src/switch.rs"]
+mod switch;
 #[path = "../../../rust/src/usb.rs"]
 mod usb;
 #[path = "../../../rust/src/wrapper.rs"]
