@@ -35,7 +35,7 @@ use Rattle.machine.specs.Control.{reset, needsConfigured, endpointStatus
 use Rattle.machine.specs.Begin.{begunUnit}
 use Rattle.machine.specs.Bulk.{packetSize, onWrapper, cutShort, gathered, storedBlock, onData, outStage, packetOut, ask, bytesOf, deliver, packetIn}
 use Rattle.machine.specs.Machine.{Event, busReset, control, bulkOut, bulkIn, setSwitch, lent, fitting, checks, check, inOrder, effect, judged, step}
-use Rattle.machine.specs.Sheet.{cbw, requestSense, onBlocks, configure, sent, commandIn, command, hands, status, senses, outsideData, events, due, told, outcome, wanted, Hold}
+use Rattle.machine.specs.Sheet.{cbw, requestSense, onBlocks, configure, cleared as clearing, sent, commandIn, command, hands, status, senses, outsideData, events, due, told, outcome, wanted, Hold}
 use Rattle.machine.specs.RefusedBlock.{noData}
 use Rattle.machine.specs.Switch.{isSwitch, switchedOut, SwitchLaws, turn, write, protectedData, fails, passes, askMode, mode, examples, ExamplesHold}
 use Rattle.machine.proofs.Compute.{computes}
@@ -231,5 +231,5 @@ switch-laws = record { sets = sets; kept = λ w e. kept w _ (changes w e); later
 -- ---- the examples, computed by the checker: a row to each `refl`
 
 pub switch-examples-hold : ExamplesHold
-unfolding computes cbw requestSense onBlocks configure sent commandIn command hands status senses outsideData noData turn write protectedData fails passes askMode mode examples events due told outcome wanted Hold
+unfolding computes cbw requestSense onBlocks configure clearing sent commandIn command hands status senses outsideData noData turn write protectedData fails passes askMode mode examples events due told outcome wanted Hold
 switch-examples-hold = (refl, (refl, (refl, (refl, (refl, (refl, (refl, (refl, (refl, (refl, (refl, (refl, tt))))))))))))

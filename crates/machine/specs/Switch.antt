@@ -12,7 +12,7 @@ use Rattle.machine.specs.Fits.{isReady}
 use Rattle.machine.specs.World.{World, switched, Out, out}
 use Rattle.machine.specs.Machine.{Event, busReset, control, bulkOut, bulkIn, setSwitch, fitting, step}
 use Rattle.machine.specs.Claim.{setup}
-use Rattle.machine.specs.Sheet.{Exchange, Row, row, cbw, onBlocks, answered, buffer, configure, sent, commandIn, command, hands, status, senses, outsideData, Hold}
+use Rattle.machine.specs.Sheet.{Exchange, Row, row, cbw, onBlocks, answered, buffer, configure, cleared, sent, commandIn, command, hands, status, senses, outsideData, Hold}
 use Rattle.machine.specs.RefusedBlock.{noData}
 
 -- ---- every step
@@ -88,9 +88,9 @@ examples =
     ∷ row 42 1 (configure ∷ closed ∷ answered busReset 1 [] ∷ configure ∷ fails)
     ∷ row 42 1 (configure ∷ closed ∷ answered (control (setup 0x21 0xFF 0 0) buffer) 1 [] ∷ fails)
     ∷ row 42 1 (configure ∷ closed ∷ configure ∷ fails)
-    -- not configured, and locked
+    -- set while not configured, and while locked
     ∷ row 42 1 (closed ∷ configure ∷ fails)
-    ∷ row 42 1 (configure ∷ sent [] 3 ∷ closed ∷ answered (control (setup 0x21 0xFF 0 0) buffer) 1 [] ∷ [])
+    ∷ row 42 1 (configure ∷ sent [] 3 ∷ closed ∷ answered (control (setup 0x21 0xFF 0 0) buffer) 1 [] ∷ cleared 0x81 ∷ cleared 0x02 ∷ fails)
     -- another position
     ∷ row 42 1 (configure ∷ answered (setSwitch 2) 10 [] ∷ closed ∷ answered (setSwitch 255) 10 [] ∷ fails)
     ∷ []

@@ -53,10 +53,11 @@ cleared us = map unsensed us
 unfoldable pub isProtected : LogicalUnit → Bool
 isProtected u = eqb (u .switch) 1
 
--- The switch of unit 0, the one that a collector has, in another position.
+-- Another position; the rest of the unit stays.
 unfoldable pub withSwitch : LogicalUnit → ℕ → LogicalUnit
 withSwitch u x = unit (u .first) (u .blocks) (u .sense) x
 
+-- Of unit 0, the one that a collector has.
 unfoldable pub switchedTo : Table → ℕ → Table
 switchedTo us x = set us 0 (withSwitch (unitAt us 0) x)
 
