@@ -104,3 +104,7 @@ ends-as r m w k x s e v = subst (λ (y : Kind). Ends r m (step w (eventOf y s)))
 -- a switch was set to a position that is read from a body
 pub ends-set : (r : EventResult) (m : List ℕ) (w : World) (x y : ℕ) → x ≡ y → Ends r m (step w (setSwitch x)) → Ends r m (step w (setSwitch y))
 ends-set r m w x y e v = subst (λ (z : ℕ). Ends r m (step w (setSwitch z))) e v
+
+-- what `ended` gave is what the event leaves
+pub ends-is : (r r′ : EventResult) (m : List ℕ) (o : Out) → r ≡ r′ → Ends r′ m o → Ends r m o
+ends-is r r′ m o e v = subst (λ (x : EventResult). Ends x m o) (sym e) v

@@ -3,6 +3,8 @@ ghost use mathlib.Core.List.{List, [], _∷_};
 ghost use Prim.Native.Nat.{ℕ, _+_, _≤_, _<_};
 ghost use lib.ListN.{length, take, drop};
 ghost use Rattle.wire.specs.Slices.{byteAt};
+ghost use mathlib.Core.Path.{_≡_};
+ghost use Rattle.machine.specs.Record.{withState};
 ghost use Rattle.machine.specs.World.{world};
 ghost use Rattle.machine.specs.Machine.{step, busReset, control, bulkOut, bulkIn, setSwitch};
 ghost use Rattle.recording.specs.Format.{lentBuffer, eventOf};
@@ -18,6 +20,7 @@ use machine::record::LogicalUnit;
 use printout::print::line;
 use recording::cursor::Kind;
 use recording::cursor::Reading;
+use state::gate::Moved;
 use wire::slices::byte;
 
 // What an event leaves: its answer, the record and its unit, and of the buffer that it was lent the first `lent` bytes.
@@ -29,21 +32,28 @@ struct EventResult {
     lent: usize,
 }
 
-fn reset(mut device: Device, unit: LogicalUnit) -> EventResult
-    ensures { λ r. ⌜ ((m : List ℕ) → Ends r m (step (world device (unit ∷ []) m) busReset)) ⌝ }
+// What an event's function gave, with the buffer that it was lent.
+fn ended(mut device: Device, moved: Moved, buffer: [u8; 64], lent: usize) -> EventResult
+    ensures { λ r. ⌜ r ≡ record { answer = moved .answer; device = withState device (moved .state); unit = moved .unit; buffer = buffer; lent = lent } ⌝ }
 {
-    let moved = reset_parts(device.identity, device.state, unit, &mut device.part);
     let answer = moved.answer;
     let next = moved.state;
-    let after = moved.unit;
+    let unit = moved.unit;
     device.state = next;
     EventResult {
         answer,
         device,
-        unit: after,
-        buffer: [0; 64],
-        lent: 0,
+        unit,
+        buffer,
+        lent,
     }
+}
+
+fn reset(mut device: Device, unit: LogicalUnit) -> EventResult
+    ensures { λ r. ⌜ ((m : List ℕ) → Ends r m (step (world device (unit ∷ []) m) busReset)) ⌝ }
+{
+    let moved = reset_parts(device.identity, device.state, unit, &mut device.part);
+    ended(device, moved, [0; 64], 0)
 }
 
 fn request(mut device: Device, unit: LogicalUnit, setup: &[u8]) -> EventResult
@@ -58,17 +68,7 @@ fn request(mut device: Device, unit: LogicalUnit, setup: &[u8]) -> EventResult
         setup,
         &mut buffer,
     );
-    let answer = moved.answer;
-    let next = moved.state;
-    let after = moved.unit;
-    device.state = next;
-    EventResult {
-        answer,
-        device,
-        unit: after,
-        buffer,
-        lent: 64,
-    }
+    ended(device, moved, buffer, 64)
 }
 
 fn packet(mut device: Device, unit: LogicalUnit, sent: &[u8], medium: &mut [u8]) -> EventResult
@@ -82,52 +82,22 @@ fn packet(mut device: Device, unit: LogicalUnit, sent: &[u8], medium: &mut [u8])
         medium,
         sent,
     );
-    let answer = moved.answer;
-    let next = moved.state;
-    let after = moved.unit;
-    device.state = next;
-    EventResult {
-        answer,
-        device,
-        unit: after,
-        buffer: [0; 64],
-        lent: 0,
-    }
+    ended(device, moved, [0; 64], 0)
 }
 
-fn ask(mut device: Device, unit: LogicalUnit, medium: &[u8]) -> EventResult
+fn ask(device: Device, unit: LogicalUnit, medium: &[u8]) -> EventResult
     ensures { λ r. ⌜ Ends r (now (medium .entry)) (step (world device (unit ∷ []) (now (medium .entry))) (bulkIn lentBuffer)) ⌝ }
 {
     let mut buffer = [0; 64];
     let moved = in_parts(device.identity, device.state, unit, medium, &mut buffer);
-    let answer = moved.answer;
-    let next = moved.state;
-    let after = moved.unit;
-    device.state = next;
-    EventResult {
-        answer,
-        device,
-        unit: after,
-        buffer,
-        lent: 64,
-    }
+    ended(device, moved, buffer, 64)
 }
 
-fn switch(mut device: Device, unit: LogicalUnit, body: &[u8]) -> EventResult
+fn switch(device: Device, unit: LogicalUnit, body: &[u8]) -> EventResult
     ensures { λ r. ⌜ ((m : List ℕ) → Ends r m (step (world device (unit ∷ []) m) (setSwitch (byteAt (now (body .entry)) 0)))) ⌝ }
 {
     let moved = switch_parts(device.identity, device.state, unit, byte(body, 0));
-    let answer = moved.answer;
-    let next = moved.state;
-    let after = moved.unit;
-    device.state = next;
-    EventResult {
-        answer,
-        device,
-        unit: after,
-        buffer: [0; 64],
-        lent: 0,
-    }
+    ended(device, moved, [0; 64], 0)
 }
 
 fn event(
