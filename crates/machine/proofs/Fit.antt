@@ -9,7 +9,7 @@ use Rattle.wire.proofs.Cases.{both, and-true}
 use Rattle.machine.specs.declared.record.Stage.{Stage}
 use Rattle.machine.specs.declared.record.Stage.the-variants.{Ready, DataOut, DataIn, ReplyIn, StatusDue}
 use Rattle.machine.specs.declared.record.Task.{Task}
-use Rattle.machine.specs.Units.{switchFits, Table, unitAt, asMade, every, laidOut, mediumFits}
+use Rattle.machine.specs.Units.{Table, unitAt, asMade, switchesFit, laidOut, mediumFits}
 use Rattle.machine.specs.Fits.{numberFits, addressFits, idleFits, lockFits, outFits, stageFits, lunFits, taskFits, fits}
 use Rattle.machine.specs.World.{World}
 use Rattle.machine.specs.Machine.{fitting}
@@ -17,7 +17,7 @@ use Rattle.machine.proofs.Tables.{same-length, same-blocks, unit-within
 
 pub record Fit (w : World) : Type 0 where
   pub laid : laidOut (w .units) ≡ true
-  pub switches : every (λ u. switchFits (u .switch)) (w .units) ≡ true
+  pub switches : switchesFit (w .units) ≡ true
   pub number : numberFits (w .dev .identity .number) ≡ true
   pub address : addressFits (w .dev .state .address) ≡ true
   pub idle : idleFits (w .dev .state) (w .units) ≡ true

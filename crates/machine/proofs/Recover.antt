@@ -19,7 +19,7 @@ use Rattle.usb.specs.declared.request.Request.{Request}
 use Rattle.usb.specs.declared.request.Request.the-variants.{SetAddress, SetConfiguration, ClearHalt, MassStorageReset}
 use Rattle.machine.specs.declared.answer.Answer.{Answer}
 use Rattle.machine.specs.declared.answer.Answer.the-variants.{Ack, Stall}
-use Rattle.machine.specs.Units.{switchFits, Table, asMade, every, laidOut}
+use Rattle.machine.specs.Units.{switchFits, Table, asMade, every, switchesFit, laidOut}
 use Rattle.machine.specs.Record.{fresh, withHalts, droppedState, withAddress}
 use Rattle.machine.specs.Fits.{numberFits, addressFits, isReady, idleFits, lockFits, stageFits, lunFits, taskFits, fits}
 use Rattle.machine.specs.World.{World, world, inState, dropped, switched, Out, out}
@@ -161,8 +161,8 @@ module _ (i : Identity) (us : Table) (m : List ℕ) (laid : laidOut us ≡ true)
   calm : every (λ u. isNoSense (u .sense)) us ≡ true
   calm = subst (λ (t : Table). every (λ u. isNoSense (u .sense)) t ≡ true) plain (calm-made us)
 
-  unclosed : every (λ u. switchFits (u .switch)) us ≡ true
-  unclosed = subst (λ (t : Table). every (λ u. switchFits (u .switch)) t ≡ true) plain (fits-made us)
+  unclosed : switchesFit us ≡ true
+  unclosed = subst (λ (t : Table). switchesFit t ≡ true) plain (fits-made us)
 
   pub fits-fresh : fitting new ≡ true
   unfolding fits fresh addressFits idleFits isReady lockFits taskFits lunFits stageFits if_then_else_ _and_

@@ -40,7 +40,7 @@ use Rattle.machine.specs.RefusedBlock.{noData}
 use Rattle.machine.specs.Switch.{isSwitch, switchedOut, SwitchLaws, turn, write, protectedData, fails, passes, askMode, mode, examples, ExamplesHold}
 use Rattle.machine.proofs.Compute.{computes}
 use Rattle.machine.proofs.StepLaws.{Changed, moves, drops, begins, turns, cuts, changes}
-use Rattle.machine.proofs.Tables.{unit-cleared, cleared-sensed, cleared-again, cleared-switched, made-switched, same-length, same-first, same-blocks, same-total}
+use Rattle.machine.proofs.Tables.{same-switch, cleared-sensed, cleared-again, cleared-switched, made-switched, same-length, same-first, same-blocks, same-total}
 use Rattle.machine.proofs.Fit.{fit-of, fits-of}
 use Rattle.machine.proofs.Reach.{turns as stays-fit}
 
@@ -55,9 +55,6 @@ sets w x = go (fitting w and switchFits x)
     go false = refl
 
 -- ---- the others
-
-same-switch : (us vs : Table) (n : ℕ) → cleared us ≡ cleared vs → unitAt us n .switch ≡ unitAt vs n .switch
-same-switch us vs n e = ap (λ (u : LogicalUnit). u .switch) (sym (unit-cleared us n) ∙ ap (λ (t : Table). unitAt t n) e ∙ unit-cleared vs n)
 
 kept : (w v : World) {e : Event} → Changed w e v → isSwitch e ≡ false → (n : ℕ) → unitAt (v .units) n .switch ≡ unitAt (w .units) n .switch
 unfolding dropped onWrapper begunUnit isSwitch

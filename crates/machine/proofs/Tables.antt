@@ -2,10 +2,10 @@
 use Prim.Native.Nat.{ℕ, zero, suc, _+_, _*_, _≤_, _<_}
 use mathlib.Core.Path.{_≡_, refl, sym, ap, _∙_}
 use mathlib.Core.Bool.{Bool, true}
-use mathlib.Core.List.{List, [], _∷_}
+use mathlib.Core.List.{List, [], _∷_, map}
 use native.Mathlib.Omega.{arith}
 use lib.Dec.{eqb}
-use lib.ListN.{length, set, List·getD-map}
+use lib.ListN.{length, set, length-map, List·getD-map}
 use lib.Seq.{map-set-same}
 use borrow.Author.Tests.{eqb-true, leb-true}
 use Rattle.wire.specs.Choice.{_and_}
@@ -15,15 +15,25 @@ use Rattle.wire.proofs.Parts.{put-back, placed-part}
 use Rattle.scsi.specs.Sense.{noSense, isNoSense}
 use Rattle.scsi.specs.declared.sense.Sense.{Sense}
 use Rattle.machine.specs.declared.record.LogicalUnit.{LogicalUnit}
-use Rattle.machine.specs.Units.{blockSize, sizeFits, switchFits, Table, unit, unitAt, withSense, unsensed, cleared, isProtected, withSwitch, switchedTo, unused, asMade, every, total, follow, laidOut, mediumFits, partOf, withPart}
+use Rattle.machine.specs.Units.{blockSize, sizeFits, switchFits, Table, unit, unitAt, withSense, unsensed, cleared, isProtected, withSwitch, switchedTo, unused, asMade, every, switchesFit, total, follow, laidOut, mediumFits, partOf, withPart}
 use Rattle.machine.specs.Wrapper.{wrapperOf}
+
+-- ---- each unit made into another
+
+map-twice : (f g h : LogicalUnit → LogicalUnit) → ((u : LogicalUnit) → f (g u) ≡ h u) → (us : Table) → map f (map g us) ≡ map h us
+map-twice f g h e [] = refl
+map-twice f g h e (u ∷ us) = let a = e u in let b = map-twice f g h e us in cc
+
+every-mapped : (test : LogicalUnit → Bool) (f : LogicalUnit → LogicalUnit) → ((u : LogicalUnit) → test (f u) ≡ true) → (us : Table) → every test (map f us) ≡ true
+unfolding every
+every-mapped test f e [] = refl
+every-mapped test f e (u ∷ us) = and-true _ _ (e u) (every-mapped test f e us)
 
 -- ---- senses
 
 pub length-cleared : (us : Table) → length (cleared us) ≡ length us
 unfolding cleared
-length-cleared [] = refl
-length-cleared (u ∷ us) = let h = length-cleared us in omega arith
+length-cleared us = length-map us unsensed
 
 pub unit-cleared : (us : Table) (n : ℕ) → unitAt (cleared us) n ≡ unsensed (unitAt us n)
 unfolding cleared
@@ -36,13 +46,11 @@ cleared-sensed us n s = map-set-same unsensed us n (withSense (unitAt us n) s) (
 
 pub cleared-again : (us : Table) → cleared (cleared us) ≡ cleared us
 unfolding cleared
-cleared-again [] = refl
-cleared-again (u ∷ us) = ap (λ (x : Table). unsensed u ∷ x) (cleared-again us)
+cleared-again us = map-twice unsensed unsensed unsensed (λ u. refl) us
 
 pub calm-cleared : (us : Table) → every (λ u. isNoSense (u .sense)) (cleared us) ≡ true
-unfolding every cleared isNoSense _and_
-calm-cleared [] = refl
-calm-cleared (u ∷ us) = calm-cleared us
+unfolding cleared isNoSense _and_
+calm-cleared us = every-mapped _ unsensed (λ u. refl) us
 
 -- a wrapper is read by parts and switches, not by senses
 pub wrapper-cleared : (us : Table) (p : List ℕ) → wrapperOf (cleared us) p ≡ wrapperOf us p
@@ -50,13 +58,16 @@ unfolding wrapperOf cleared isProtected
 wrapper-cleared us p = simp (length-cleared us, unit-cleared us)
 
 -- the switches of a table fit whatever its senses are
-switches-cleared : (us : Table) → every (λ u. switchFits (u .switch)) (cleared us) ≡ every (λ u. switchFits (u .switch)) us
+switches-cleared : (us : Table) → switchesFit (cleared us) ≡ switchesFit us
 unfolding every cleared
 switches-cleared [] = refl
 switches-cleared (u ∷ us) = ap (λ (b : Bool). switchFits (u .switch) and b) (switches-cleared us)
 
-pub same-switches : (us vs : Table) → cleared us ≡ cleared vs → every (λ u. switchFits (u .switch)) us ≡ every (λ u. switchFits (u .switch)) vs
-same-switches us vs e = sym (switches-cleared us) ∙ ap (every (λ u. switchFits (u .switch))) e ∙ switches-cleared vs
+pub same-switch : (us vs : Table) (n : ℕ) → cleared us ≡ cleared vs → unitAt us n .switch ≡ unitAt vs n .switch
+same-switch us vs n e = ap (λ (u : LogicalUnit). u .switch) (sym (unit-cleared us n) ∙ ap (λ (t : Table). unitAt t n) e ∙ unit-cleared vs n)
+
+pub same-switches : (us vs : Table) → cleared us ≡ cleared vs → switchesFit us ≡ switchesFit vs
+same-switches us vs e = sym (switches-cleared us) ∙ ap switchesFit e ∙ switches-cleared vs
 
 -- ---- switches
 
@@ -70,12 +81,12 @@ unfolding every switchedTo withSwitch
 calm-switched [] x = refl
 calm-switched (u ∷ us) x = refl
 
-pub fits-switched : (us : Table) (x : ℕ) → switchFits x ≡ true → every (λ u. switchFits (u .switch)) us ≡ true → every (λ u. switchFits (u .switch)) (switchedTo us x) ≡ true
+pub fits-switched : (us : Table) (x : ℕ) → switchFits x ≡ true → switchesFit us ≡ true → switchesFit (switchedTo us x) ≡ true
 unfolding every switchedTo withSwitch
 fits-switched [] x h e = refl
 fits-switched (u ∷ us) x h e = and-true _ _ h (both _ _ e .1)
 
-pub switch-at : (us : Table) (n : ℕ) → every (λ u. switchFits (u .switch)) us ≡ true → switchFits (unitAt us n .switch) ≡ true
+pub switch-at : (us : Table) (n : ℕ) → switchesFit us ≡ true → switchFits (unitAt us n .switch) ≡ true
 unfolding every switchFits
 switch-at [] n e = refl
 switch-at (u ∷ us) zero e = both _ _ e .0
@@ -85,8 +96,7 @@ switch-at (u ∷ us) (suc n) e = switch-at us n (both _ _ e .1)
 
 length-made : (us : Table) → length (asMade us) ≡ length us
 unfolding asMade
-length-made [] = refl
-length-made (u ∷ us) = let h = length-made us in omega arith
+length-made us = length-map us unused
 
 unit-made : (us : Table) (n : ℕ) → unitAt (asMade us) n ≡ unused (unitAt us n)
 unfolding asMade
@@ -107,24 +117,20 @@ unfolding laidOut
 laid-made us = simp (length-made us, follow-made 0 us)
 
 pub calm-made : (us : Table) → every (λ u. isNoSense (u .sense)) (asMade us) ≡ true
-unfolding every asMade isNoSense _and_
-calm-made [] = refl
-calm-made (u ∷ us) = calm-made us
+unfolding asMade isNoSense _and_
+calm-made us = every-mapped _ unused (λ u. refl) us
 
-pub fits-made : (us : Table) → every (λ u. switchFits (u .switch)) (asMade us) ≡ true
-unfolding every asMade switchFits _and_
-fits-made [] = refl
-fits-made (u ∷ us) = fits-made us
+pub fits-made : (us : Table) → switchesFit (asMade us) ≡ true
+unfolding asMade switchFits
+fits-made us = every-mapped _ unused (λ u. refl) us
 
 pub cleared-made : (us : Table) → cleared (asMade us) ≡ asMade us
 unfolding cleared asMade
-cleared-made [] = refl
-cleared-made (u ∷ us) = ap (λ (t : Table). unused u ∷ t) (cleared-made us)
+cleared-made us = map-twice unsensed unused unused (λ u. refl) us
 
 pub made-cleared : (us : Table) → asMade (cleared us) ≡ asMade us
 unfolding cleared asMade
-made-cleared [] = refl
-made-cleared (u ∷ us) = ap (λ (t : Table). unused u ∷ t) (made-cleared us)
+made-cleared us = map-twice unused unsensed unused (λ u. refl) us
 
 pub made-switched : (us : Table) (x : ℕ) → asMade (switchedTo us x) ≡ asMade us
 unfolding asMade switchedTo withSwitch

@@ -1,4 +1,4 @@
--- Number 10: when a record and its table fit together (document 01, "Numbers that come back"). The part block is free.
+-- Number 10: when a record and its table fit together (document 01, "Numbers that come back"; document 02, A4: the switch). The part block is free.
 use Prim.Native.Nat.{ℕ, _+_, _*_, _%_}
 use mathlib.Core.Bool.{Bool, true, false, not}
 use lib.Dec.{leb, ltb, eqb}
@@ -11,7 +11,7 @@ use Rattle.machine.specs.declared.record.Stage.the-variants.{Ready, Data
 use Rattle.machine.specs.declared.record.Task.{Task}
 use Rattle.machine.specs.declared.record.Link.{Link}
 use Rattle.machine.specs.declared.record.State.{State}
-use Rattle.machine.specs.Units.{blockSize, switchFits, Table, unitAt, inTable, every, laidOut}
+use Rattle.machine.specs.Units.{blockSize, Table, unitAt, inTable, every, switchesFit, laidOut}
 
 -- "collector number and address in range"
 unfoldable pub numberFits : ℕ → Bool
@@ -78,7 +78,7 @@ taskFits us t = lunFits (t .stage) (t .lun) us and stageFits (unitAt us (t .lun)
 unfoldable pub fits : Identity → State → Table → Bool
 fits i s us =
     laidOut us
-    and every (λ u. switchFits (u .switch)) us
+    and switchesFit us
     and numberFits (i .number)
     and addressFits (s .address)
     and idleFits s us

@@ -23,7 +23,7 @@ blocksIn m = length m / blockSize
 unfoldable pub mediumServed : List ℕ → Bool
 mediumServed m = eqb (length m % blockSize) 0 and sizeFits (blocksIn m)
 
--- The table of a collector of one unit, which has the whole medium.
+-- The table of a collector of one unit, which has the whole medium; its switch is "open (as made)" (document 02, A4).
 abbrev pub oneUnit : ℕ → Table
 oneUnit n = unit 0 n noSense 0 ∷ []
 

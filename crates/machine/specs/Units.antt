@@ -72,6 +72,9 @@ unfoldable pub every : (LogicalUnit → Bool) → Table → Bool
 every test [] = true
 every test (u ∷ us) = test u and every test us
 
+abbrev pub switchesFit : Table → Bool
+switchesFit us = every (λ u. switchFits (u .switch)) us
+
 -- ---- the parts of the medium
 
 -- "It has 1 to 4 logical units" (document 02, A7)
