@@ -1,6 +1,6 @@
 """Holds crates/replay to recordings/: its data/ are the recordings that the texts there make, and its stdout what the texts expect.
 
-With --fix it writes them anew.
+Which units replay plays a recording over goes by its name, so a text must say the same units. With --fix the files are written anew.
 """
 import glob
 import os
@@ -13,6 +13,11 @@ import script
 FIRST = "sheet"
 
 
+def over(name):
+    """The blocks of each unit that replay plays a recording over."""
+    return [128] if name == FIRST else [64, 7, 1, 128] if name.startswith("units-") else script.BENCH
+
+
 def read(path):
     with open(path, encoding="utf-8") as f:
         return f.read()
@@ -22,9 +27,12 @@ def texts():
     """Name, recording and print-out of each text, the bench sheet's first."""
     names = sorted((os.path.basename(p)[:-4] for p in glob.glob("recordings/*.txt")), key=lambda n: (n != FIRST, n))
     for name in names:
-        events, answers = script.read(read("recordings/%s.txt" % name))
+        text = read("recordings/%s.txt" % name)
+        events, answers = script.read(text)
         if None in answers:
             raise SystemExit("recordings/%s.txt: a line has no answer" % name)
+        if script.units(text) != over(name):
+            raise SystemExit("recordings/%s.txt: replay plays it over units of %s blocks" % (name, over(name)))
         yield name, script.recording(events), script.expected(answers)
 
 

@@ -5,6 +5,7 @@
 #ifndef CONTROLLER_H
 #define CONTROLLER_H
 
+#include <stdbool.h>
 #include <stddef.h>
 #include <stdint.h>
 
@@ -41,7 +42,9 @@ void controller_silence(controller_endpoint endpoint);
 /* Sets the address that the hardware answers to; it takes effect after the status stage. */
 void controller_address(uint8_t address);
 
-/* Where the write switch now is: 0 open, 1 closed. Somebody may move it at any time; no event tells of it. */
-int controller_write_switch(void);
+/* The districts' write switches, numbered from 0. Somebody may move them at any time; no event tells of it. Gives back whether
+   one was moved that was not told of yet, which, and where it went: 0 open, 1 closed. Those that are closed when the power
+   comes on count as moved. */
+bool controller_switch_moved(uint8_t *district, uint8_t *position);
 
 #endif

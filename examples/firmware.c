@@ -1,16 +1,20 @@
 /*
- * The main loop of a drive: poll the controller for an event, see where the write switch is, call the device, hand its
- * answer to the hardware.
+ * The main loop of a collector that serves two districts, each with its own unit: poll the controller for an event, see which
+ * write switches were moved, call the device, hand its answer to the hardware.
  */
 #include "collector.h"
 #include "controller.h"
 
 #include <stdbool.h>
 
-enum { BLOCKS = 64 };
+enum { NORTH_BLOCKS = 64, SOUTH_BLOCKS = 32, UNITS = 2 };
 
 static collector_record record;
-static uint8_t medium[BLOCKS * COLLECTOR_BLOCK_SIZE];
+static collector_unit units[UNITS] = {
+    {.first = 0, .blocks = NORTH_BLOCKS},
+    {.first = NORTH_BLOCKS, .blocks = SOUTH_BLOCKS},
+};
+static uint8_t medium[(NORTH_BLOCKS + SOUTH_BLOCKS) * COLLECTOR_BLOCK_SIZE];
 
 /* False for a refusal: not the host but this program is at fault. */
 static bool hand_over(controller_endpoint endpoint, collector_answer answer, const uint8_t *buffer)
@@ -45,32 +49,35 @@ static bool serve(controller_event event)
 
     switch (event) {
     case CONTROLLER_RESET:
-        answer = collector_bus_reset(&record);
+        answer = collector_bus_reset(&record, units, UNITS);
         controller_address(record.address);
         return answer.number == COLLECTOR_ACK;
     case CONTROLLER_SETUP:
         length = controller_read(CONTROLLER_CONTROL, packet);
-        answer = collector_control(&record, packet, length, buffer, sizeof buffer);
+        answer = collector_control(&record, units, UNITS, packet, length, buffer, sizeof buffer);
         controller_address(record.address);
         return hand_over(CONTROLLER_CONTROL, answer, buffer);
     case CONTROLLER_OUT:
         length = controller_read(CONTROLLER_BULK_OUT, packet);
-        answer = collector_bulk_out(&record, medium, sizeof medium, packet, length);
+        answer = collector_bulk_out(&record, units, UNITS, medium, sizeof medium, packet, length);
         return hand_over(CONTROLLER_BULK_OUT, answer, buffer);
     case CONTROLLER_IN:
-        answer = collector_bulk_in(&record, medium, sizeof medium, buffer, sizeof buffer);
+        answer = collector_bulk_in(&record, units, UNITS, medium, sizeof medium, buffer, sizeof buffer);
         return hand_over(CONTROLLER_BULK_IN, answer, buffer);
     default:
         return false;
     }
 }
 
-/* Tells the device of the write switch where its record says otherwise: after making, which opens it, and once it was moved. */
-static bool follow_switch(void)
+/* Tells the device of each write switch that was moved; making opened them all. A district's number is its unit's. */
+static bool follow_switches(void)
 {
-    const uint8_t position = controller_write_switch() ? COLLECTOR_SWITCH_CLOSED : COLLECTOR_SWITCH_OPEN;
+    uint8_t district, position;
 
-    return position == record.write_switch || collector_set_switch(&record, position).number == COLLECTOR_ACK;
+    while (controller_switch_moved(&district, &position))
+        if (collector_set_switch(&record, units, UNITS, position, district).number != COLLECTOR_ACK)
+            return false;
+    return true;
 }
 
 int main(void)
@@ -79,10 +86,11 @@ int main(void)
     const uint16_t vendor = 0x1209, product = 0x0001, release = 0x0100;
     controller_event event;
 
-    if (collector_make(&record, number, vendor, product, release, medium, sizeof medium).number != COLLECTOR_ACK)
+    if (collector_make(&record, number, vendor, product, release, units, UNITS, medium, sizeof medium).number !=
+        COLLECTOR_ACK)
         return 1;
     while ((event = controller_poll()) != CONTROLLER_OFF)
-        if (!follow_switch() || !serve(event))
+        if (!follow_switches() || !serve(event))
             return 1;
     return 0;
 }

@@ -23,26 +23,26 @@ bool same_record(const collector_record *a, const collector_record *b)
 {
     collector_record both[2] = {*a, *b};
 
-    for (int at = 0; at < 2; at++) {
-        both[at].reserved0 = 0;
-        both[at].reserved1 = 0;
-        memset(both[at].reserved2, 0, sizeof both[at].reserved2);
-    }
+    both[0].reserved0 = both[1].reserved0 = 0;
     return memcmp(&both[0], &both[1], sizeof both[0]) == 0;
+}
+
+bool same_unit(const collector_unit *a, const collector_unit *b)
+{
+    return a->first == b->first && a->blocks == b->blocks && a->sense_key == b->sense_key &&
+           a->sense_asc == b->sense_asc && a->sense_ascq == b->sense_ascq &&
+           a->sense_information == b->sense_information && a->write_switch == b->write_switch;
 }
 
 bool same(const bench *a, const bench *b)
 {
-    return same_record(&a->record, &b->record) && memcmp(a->medium, b->medium, sizeof a->medium) == 0 &&
-           memcmp(a->buffer, b->buffer, sizeof a->buffer) == 0;
+    return same_record(&a->record, &b->record) && same_unit(&a->unit, &b->unit) &&
+           memcmp(a->medium, b->medium, sizeof a->medium) == 0 && memcmp(a->buffer, b->buffer, sizeof a->buffer) == 0;
 }
 
 bool filled(const uint8_t *bytes, size_t length, uint8_t value)
 {
-    for (size_t at = 0; at < length; at++)
-        if (bytes[at] != value)
-            return false;
-    return true;
+    return length == 0 || (bytes[0] == value && memcmp(bytes, bytes + 1, length - 1) == 0);
 }
 
 uint32_t number_of(collector_answer answer)
@@ -51,14 +51,19 @@ uint32_t number_of(collector_answer answer)
     return answer.number;
 }
 
+uint32_t reset(bench *bench)
+{
+    return number_of(collector_bus_reset(&bench->record, &bench->unit, 1));
+}
+
 uint32_t control(bench *bench, const char *setup)
 {
-    return number_of(collector_control(&bench->record, (const uint8_t *)setup, 8, bench->buffer, 64));
+    return number_of(collector_control(&bench->record, &bench->unit, 1, (const uint8_t *)setup, 8, bench->buffer, 64));
 }
 
 uint32_t send_packet(bench *bench, const void *packet, size_t length)
 {
-    return number_of(collector_bulk_out(&bench->record, bench->medium, MEDIUM, packet, length));
+    return number_of(collector_bulk_out(&bench->record, &bench->unit, 1, bench->medium, MEDIUM, packet, length));
 }
 
 size_t data_in(bench *bench)
@@ -68,7 +73,7 @@ size_t data_in(bench *bench)
     collector_answer answer;
 
     memset(buffer, FILL, size);
-    answer = collector_bulk_in(&bench->record, bench->medium, MEDIUM, buffer, size);
+    answer = collector_bulk_in(&bench->record, &bench->unit, 1, bench->medium, MEDIUM, buffer, size);
     EQUAL(answer.number, COLLECTOR_DATA);
     CHECK(filled(buffer + answer.count, size - answer.count, FILL));
     return answer.count;
@@ -76,12 +81,12 @@ size_t data_in(bench *bench)
 
 uint32_t ask(bench *bench)
 {
-    return number_of(collector_bulk_in(&bench->record, bench->medium, MEDIUM, bench->buffer, 64));
+    return number_of(collector_bulk_in(&bench->record, &bench->unit, 1, bench->medium, MEDIUM, bench->buffer, 64));
 }
 
 uint32_t turn_switch(bench *bench, uint8_t position)
 {
-    return number_of(collector_set_switch(&bench->record, position));
+    return number_of(collector_set_switch(&bench->record, &bench->unit, 1, position, 0));
 }
 
 void make(bench *bench)
@@ -89,7 +94,10 @@ void make(bench *bench)
     memset(bench, FILL, sizeof *bench);
     for (size_t at = 0; at < MEDIUM; at++)
         bench->medium[at] = (uint8_t)(at / 64);
-    EQUAL(number_of(collector_make(&bench->record, 42, 0x1209, 0x0001, 0x0100, bench->medium, MEDIUM)), COLLECTOR_ACK);
+    bench->unit.first = 0;
+    bench->unit.blocks = BLOCKS;
+    EQUAL(number_of(collector_make(&bench->record, 42, 0x1209, 0x0001, 0x0100, &bench->unit, 1, bench->medium, MEDIUM)),
+          COLLECTOR_ACK);
 }
 
 void configure(bench *bench)
@@ -133,12 +141,12 @@ void expect_stage(const bench *bench, uint8_t stage, uint32_t place, uint32_t le
     EQUAL(bench->record.extra, 0);
 }
 
-void expect_unit_sense(const collector_record *record, uint8_t key, uint8_t asc, uint32_t information)
+void expect_unit_sense(const collector_unit *unit, uint8_t key, uint8_t asc, uint32_t information)
 {
-    EQUAL(record->sense_key, key);
-    EQUAL(record->sense_asc, asc);
-    EQUAL(record->sense_ascq, 0x00);
-    EQUAL(record->sense_information, information);
+    EQUAL(unit->sense_key, key);
+    EQUAL(unit->sense_asc, asc);
+    EQUAL(unit->sense_ascq, 0x00);
+    EQUAL(unit->sense_information, information);
 }
 
 void expect_status(bench *bench, const char *residue, uint8_t status)
@@ -148,4 +156,8 @@ void expect_status(bench *bench, const char *residue, uint8_t status)
     CHECK(memcmp(bench->buffer + 8, residue, 4) == 0);
     EQUAL(bench->buffer[12], status);
     expect_stage(bench, COLLECTOR_STAGE_READY, 0, 0, 0);
+    EQUAL(bench->record.tag, 0);
+    EQUAL(bench->record.announced, 0);
+    EQUAL(bench->record.residue, 0);
+    EQUAL(bench->record.unit, 0);
 }

@@ -19,12 +19,14 @@ extern unsigned checks;
 
 typedef struct bench {
     collector_record record;
+    collector_unit unit;        /* the table: one unit over the whole medium */
     uint8_t medium[MEDIUM];
     uint8_t buffer[100];
 } bench;
 
-/* Compare all but a record's reserved bytes, which have no defined content. */
+/* Compare all but reserved bytes, which have no defined content. */
 bool same_record(const collector_record *a, const collector_record *b);
+bool same_unit(const collector_unit *a, const collector_unit *b);
 bool same(const bench *a, const bench *b);
 bool filled(const uint8_t *bytes, size_t length, uint8_t value);
 
@@ -35,7 +37,8 @@ uint32_t number_of(collector_answer answer);
 void make(bench *bench);
 void configure(bench *bench);
 
-/* The events with the bench's medium and buffer. */
+/* The events with the bench's table, medium and buffer. */
+uint32_t reset(bench *bench);
 uint32_t control(bench *bench, const char *setup);
 uint32_t send_packet(bench *bench, const void *packet, size_t length);
 uint32_t ask(bench *bench);
@@ -52,10 +55,10 @@ void command(bench *bench, uint32_t announced, uint8_t direction, const char *bl
 void expect_command(const bench *bench, uint32_t announced, uint32_t residue);
 void expect_stage(const bench *bench, uint8_t stage, uint32_t place, uint32_t left, uint32_t value);
 
-/* The sense that a record's unit must hold; its qualifier is 00. */
-void expect_unit_sense(const collector_record *record, uint8_t key, uint8_t asc, uint32_t information);
+/* The sense that a unit must hold; its qualifier is 00. */
+void expect_unit_sense(const collector_unit *unit, uint8_t key, uint8_t asc, uint32_t information);
 
-/* Asks for the status wrapper, which must come, and leave the device ready. */
+/* Asks for the status wrapper, which must come, and leave the device ready, no command in hand. */
 void expect_status(bench *bench, const char *residue, uint8_t status);
 
 #define SET_CONFIGURATION "\x00\x09\x01\x00\x00\x00\x00\x00"

@@ -1,5 +1,5 @@
 /*
- * The C interface as C sees it: the record's layout, every function, every number, and what a call leaves unchanged.
+ * The C interface as C sees it: the layout of record and unit, every function, every number, and what a call leaves unchanged.
  * Exit status 1 at the first failure.
  */
 #include "bench.h"
@@ -7,6 +7,8 @@
 #include "product_pages.h"
 #include "records.h"
 #include "refused_block.h"
+#include "several_units.h"
+#include "tables.h"
 #include "write_switch.h"
 
 #include <inttypes.h>
@@ -15,14 +17,17 @@
 
 static void layout(void)
 {
-    EQUAL(sizeof(collector_record), 576);
+    EQUAL(sizeof(collector_record), 560);
     EQUAL(_Alignof(collector_record), 8);
+    EQUAL(sizeof(collector_unit), 20);
+    EQUAL(_Alignof(collector_unit), 4);
     EQUAL(sizeof(collector_answer), 16);
     EQUAL(offsetof(collector_answer, number), 0);
     EQUAL(offsetof(collector_answer, count), 8);
-#define AT(field, place, size)                              \
-    EQUAL(offsetof(collector_record, field), place);        \
-    EQUAL(sizeof((collector_record *)0)->field, size)
+#define IN(type, field, place, size)            \
+    EQUAL(offsetof(type, field), place);        \
+    EQUAL(sizeof((type *)0)->field, size)
+#define AT(field, place, size) IN(collector_record, field, place, size)
     AT(number, 0, 8);
     AT(vendor, 8, 2);
     AT(product, 10, 2);
@@ -35,39 +40,47 @@ static void layout(void)
     AT(extra, 32, 4);
     AT(tag, 36, 4);
     AT(announced, 40, 4);
-    AT(blocks, 44, 4);
-    AT(sense_information, 48, 4);
-    AT(stage, 52, 1);
-    AT(flags, 53, 1);
-    AT(address, 54, 1);
-    AT(sense_key, 55, 1);
-    AT(sense_asc, 56, 1);
-    AT(sense_ascq, 57, 1);
-    AT(write_switch, 58, 1);
-    AT(reserved1, 59, 1);
-    AT(part, 60, 512);
-    AT(reserved2, 572, 4);
+    AT(stage, 44, 1);
+    AT(flags, 45, 1);
+    AT(address, 46, 1);
+    AT(unit, 47, 1);
+    AT(part, 48, 512);
 #undef AT
+#define AT(field, place, size) IN(collector_unit, field, place, size)
+    AT(first, 0, 4);
+    AT(blocks, 4, 4);
+    AT(sense_key, 8, 1);
+    AT(sense_asc, 9, 1);
+    AT(sense_ascq, 10, 1);
+    AT(reserved0, 11, 1);
+    AT(sense_information, 12, 4);
+    AT(write_switch, 16, 1);
+    AT(reserved1, 17, 3);
+#undef AT
+#undef IN
+}
+
+static uint32_t make_number(bench *bench, uint64_t number)
+{
+    return number_of(collector_make(&bench->record, number, 1, 2, 3, &bench->unit, 1, bench->medium, MEDIUM));
 }
 
 static void making(void)
 {
     static const collector_record zero;
-    static const collector_record fresh = {
-        .number = 42, .vendor = 0x1209, .product = 0x0001, .release = 0x0100, .blocks = BLOCKS
-    };
-    collector_record record;
+    static const collector_record fresh = {.number = 42, .vendor = 0x1209, .product = 0x0001, .release = 0x0100};
+    static const collector_unit whole = {.first = 0, .blocks = BLOCKS};
     bench bench;
 
     make(&bench);
     CHECK(same_record(&bench.record, &fresh));
-    memset(&record, FILL, sizeof record);
-    EQUAL(number_of(collector_make(&record, COLLECTOR_MAX_NUMBER + 1, 1, 2, 3, bench.medium, MEDIUM)),
-          COLLECTOR_BAD_NUMBER);
-    CHECK(same_record(&record, &zero));
-    EQUAL(number_of(collector_bus_reset(&record)), COLLECTOR_BAD_RECORD);
-    EQUAL(number_of(collector_make(&record, COLLECTOR_MAX_NUMBER, 1, 2, 3, bench.medium, MEDIUM)), COLLECTOR_ACK);
-    EQUAL(record.number, 999999999999);
+    CHECK(same_unit(&bench.unit, &whole));
+    memset(&bench.record, FILL, sizeof bench.record);
+    EQUAL(make_number(&bench, COLLECTOR_MAX_NUMBER + 1), COLLECTOR_BAD_NUMBER);
+    CHECK(same_record(&bench.record, &zero));
+    CHECK(same_unit(&bench.unit, &whole));
+    EQUAL(make_number(&bench, COLLECTOR_MAX_NUMBER), COLLECTOR_ACK);
+    EQUAL(bench.record.number, 999999999999);
 }
 
 /* Numbers 10 to 14 in their order, and silence after them; nothing changes. */
@@ -77,28 +90,29 @@ static void refusals(void)
     static const size_t bad[] = {0, MEDIUM - 1, MEDIUM - 512, MEDIUM + 512};
     bench bench, before;
     collector_record *record = &bench.record;
+    collector_unit *unit = &bench.unit;
     uint8_t packet[65] = {0};
 
     make(&bench);
     before = bench;
     for (size_t at = 0; at < sizeof bad / sizeof bad[0]; at++) {
-        EQUAL(number_of(collector_bulk_out(record, other, bad[at], packet, 65)), COLLECTOR_BAD_MEDIUM);
-        EQUAL(number_of(collector_bulk_in(record, other, bad[at], bench.buffer, 63)), COLLECTOR_BAD_MEDIUM);
+        EQUAL(number_of(collector_bulk_out(record, unit, 1, other, bad[at], packet, 65)), COLLECTOR_BAD_MEDIUM);
+        EQUAL(number_of(collector_bulk_in(record, unit, 1, other, bad[at], bench.buffer, 63)), COLLECTOR_BAD_MEDIUM);
     }
-    EQUAL(number_of(collector_bulk_in(record, bench.medium, MEDIUM, bench.buffer, 63)), COLLECTOR_SHORT_BUFFER);
-    EQUAL(number_of(collector_bulk_out(record, bench.medium, MEDIUM, packet, 65)), COLLECTOR_LONG_PACKET);
-    EQUAL(number_of(collector_control(record, packet, 7, bench.buffer, 63)), COLLECTOR_SHORT_BUFFER);
-    EQUAL(number_of(collector_control(record, packet, 7, bench.buffer, 64)), COLLECTOR_BAD_SETUP);
-    EQUAL(number_of(collector_control(record, packet, 9, bench.buffer, 64)), COLLECTOR_BAD_SETUP);
+    EQUAL(number_of(collector_bulk_in(record, unit, 1, bench.medium, MEDIUM, bench.buffer, 63)), COLLECTOR_SHORT_BUFFER);
+    EQUAL(number_of(collector_bulk_out(record, unit, 1, bench.medium, MEDIUM, packet, 65)), COLLECTOR_LONG_PACKET);
+    EQUAL(number_of(collector_control(record, unit, 1, packet, 7, bench.buffer, 63)), COLLECTOR_SHORT_BUFFER);
+    EQUAL(number_of(collector_control(record, unit, 1, packet, 7, bench.buffer, 64)), COLLECTOR_BAD_SETUP);
+    EQUAL(number_of(collector_control(record, unit, 1, packet, 9, bench.buffer, 64)), COLLECTOR_BAD_SETUP);
     EQUAL(send_packet(&bench, packet, 31), COLLECTOR_SILENT);
     EQUAL(ask(&bench), COLLECTOR_SILENT);
     CHECK(same(&bench, &before));
     record->stage = before.record.stage = 11;
-    EQUAL(number_of(collector_bus_reset(record)), COLLECTOR_BAD_RECORD);
-    EQUAL(number_of(collector_control(record, packet, 7, bench.buffer, 0)), COLLECTOR_BAD_RECORD);
-    EQUAL(number_of(collector_bulk_out(record, bench.medium, 0, packet, 65)), COLLECTOR_BAD_RECORD);
-    EQUAL(number_of(collector_bulk_in(record, bench.medium, 0, bench.buffer, 0)), COLLECTOR_BAD_RECORD);
-    EQUAL(number_of(collector_set_switch(record, COLLECTOR_SWITCH_CLOSED)), COLLECTOR_BAD_RECORD);
+    EQUAL(reset(&bench), COLLECTOR_BAD_RECORD);
+    EQUAL(number_of(collector_control(record, unit, 1, packet, 7, bench.buffer, 0)), COLLECTOR_BAD_RECORD);
+    EQUAL(number_of(collector_bulk_out(record, unit, 1, bench.medium, 0, packet, 65)), COLLECTOR_BAD_RECORD);
+    EQUAL(number_of(collector_bulk_in(record, unit, 1, bench.medium, 0, bench.buffer, 0)), COLLECTOR_BAD_RECORD);
+    EQUAL(turn_switch(&bench, COLLECTOR_SWITCH_CLOSED), COLLECTOR_BAD_RECORD);
     CHECK(same(&bench, &before));
     CHECK(filled(other, sizeof other, 0));
 }
@@ -120,19 +134,21 @@ static void control_requests(void)
     before = bench;
     EQUAL(control(&bench, "\x00\x05\x01\x00\x00\x00\x00\x00"), COLLECTOR_STALL);
     CHECK(same(&bench, &before));
-    answer = collector_control(&bench.record, (const uint8_t *)GET_MAX_LUN, 8, bench.buffer, sizeof bench.buffer);
+    answer = collector_control(&bench.record, &bench.unit, 1, (const uint8_t *)GET_MAX_LUN, 8, bench.buffer,
+                               sizeof bench.buffer);
     EQUAL(answer.number, COLLECTOR_DATA);
     EQUAL(answer.count, 1);
     EQUAL(bench.buffer[0], 0);
     CHECK(filled(bench.buffer + 1, sizeof bench.buffer - 1, FILL));
-    answer = collector_control(&bench.record, (const uint8_t *)"\x80\x06\x00\x01\x00\x00\x12\x00", 8, bench.buffer, 64);
+    answer = collector_control(&bench.record, &bench.unit, 1, (const uint8_t *)"\x80\x06\x00\x01\x00\x00\x12\x00", 8,
+                               bench.buffer, 64);
     EQUAL(answer.count, 18);
     CHECK(memcmp(bench.buffer, "\x12\x01\x00\x02\x00\x00\x00\x40\x09\x12\x01\x00\x00\x01\x01\x02\x03\x01", 18) == 0);
     CHECK(same_record(&bench.record, &before.record));
     EQUAL(control(&bench, SET_IN), COLLECTOR_ACK);
     EQUAL(bench.record.flags, COLLECTOR_FLAG_CONFIGURED | COLLECTOR_FLAG_HALT_IN);
     EQUAL(ask(&bench), COLLECTOR_STALL);
-    EQUAL(number_of(collector_bus_reset(&bench.record)), COLLECTOR_ACK);
+    EQUAL(reset(&bench), COLLECTOR_ACK);
     EQUAL(bench.record.flags, 0);
     EQUAL(bench.record.address, 0);
 }
@@ -239,10 +255,10 @@ static void broken_write(void)
     expect_stage(&bench, COLLECTOR_STAGE_PHASE_ERROR, 0, 0, 0);
     expect_command(&bench, 1024, 1024);
     EQUAL(bench.record.flags, COLLECTOR_FLAG_CONFIGURED | COLLECTOR_FLAG_HALT_OUT);
-    EQUAL(bench.record.sense_key, 0x0B);
-    EQUAL(bench.record.sense_asc, 0x4B);
-    EQUAL(bench.record.sense_ascq, 0x00);
-    EQUAL(bench.record.sense_information, 0);
+    EQUAL(bench.unit.sense_key, 0x0B);
+    EQUAL(bench.unit.sense_asc, 0x4B);
+    EQUAL(bench.unit.sense_ascq, 0x00);
+    EQUAL(bench.unit.sense_information, 0);
     CHECK(filled(bench.record.part, 512, 0));
     expect_status(&bench, "\x00\x04\x00\x00", 2);
     EQUAL(bench.record.flags, 15);
@@ -266,9 +282,9 @@ static void control_byte(void)
         before = bench;
         command(&bench, 1024, 0x00, block);
         EQUAL(bench.record.stage == COLLECTOR_STAGE_FAILED, bit < 3);
-        EQUAL(bench.record.sense_key, bit < 3 ? 0x05 : 0x00);
-        EQUAL(bench.record.sense_asc, bit < 3 ? 0x24 : 0x00);
-        EQUAL(bench.record.sense_ascq, 0x00);
+        EQUAL(bench.unit.sense_key, bit < 3 ? 0x05 : 0x00);
+        EQUAL(bench.unit.sense_asc, bit < 3 ? 0x24 : 0x00);
+        EQUAL(bench.unit.sense_ascq, 0x00);
         if (bit < 3) {
             expect_command(&bench, 1024, 1024);
             EQUAL(bench.record.flags, COLLECTOR_FLAG_CONFIGURED | COLLECTOR_FLAG_HALT_OUT);
@@ -339,6 +355,17 @@ int main(void)
     write_switch_records();
     records_that_do_not_decode();
     records_that_do_not_fit();
+    tables_at_making();
+    tables_of_largest_units();
+    tables_that_do_not_fit();
+    units_that_do_not_fit();
+    media_of_tables();
+    addressed_units();
+    blocks_of_units();
+    senses_of_units();
+    switches_of_units();
+    histories_apart_in_one_unit();
+    tables_kept();
     printf("interface: %u checks passed\n", checks);
     return 0;
 }

@@ -1,5 +1,5 @@
 /*
- * Media of each size that is served, and of sizes that are not. The medium is from calloc: memory that is never
+ * Units of each size that is served, and media that are not their unit's size. The medium is from calloc: memory that is never
  * touched costs nothing.
  */
 #include "medium_size.h"
@@ -10,7 +10,8 @@
 #include <stdlib.h>
 #include <string.h>
 
-/* More bytes than 32 bits count. */
+/* The largest unit's bytes; more bytes than 32 bits count. */
+#define LARGEST ((size_t)COLLECTOR_MAX_BLOCKS * COLLECTOR_BLOCK_SIZE)
 #define ALL (((size_t)1 << 32) + COLLECTOR_BLOCK_SIZE)
 
 static void served(store *store)
@@ -26,7 +27,8 @@ static void served(store *store)
     };
 
     EQUAL(COLLECTOR_MAX_BLOCKS, 1048576);
-    EQUAL(COLLECTOR_MAX_MEDIUM_SIZE, 536870912);
+    EQUAL(COLLECTOR_MAX_UNITS, 4);
+    EQUAL(COLLECTOR_MAX_MEDIUM_SIZE, 2147483648);
     for (size_t at = 0; at < sizeof rows / sizeof rows[0]; at++) {
         plug(store, rows[at].blocks);
         start(store, CAPACITY, 0, 0, 8);
@@ -39,28 +41,34 @@ static void served(store *store)
     }
 }
 
-/* Lengths that are refused at making. Of the last one 32 bits would show a single block. */
+/* Lengths that are refused at making, for the smallest unit and the largest. Of the last one 32 bits would show a single block. */
 static void unserved(store *store)
 {
     static const size_t lengths[] = {
-        0, 1, 511, 513, COLLECTOR_MAX_MEDIUM_SIZE - 1, COLLECTOR_MAX_MEDIUM_SIZE + 1, COLLECTOR_MAX_MEDIUM_SIZE + 511,
-        COLLECTOR_MAX_MEDIUM_SIZE + 512, 2 * (size_t)COLLECTOR_MAX_MEDIUM_SIZE, ALL - 512, ALL
+        0, 1, 511, 513, 1024, LARGEST - 512, LARGEST - 1, LARGEST + 1, LARGEST + 511, LARGEST + 512, 2 * LARGEST,
+        ALL - 512, ALL
     };
     static const collector_record zero;
 
-    for (size_t at = 0; at < sizeof lengths / sizeof lengths[0]; at++) {
+    for (size_t at = 0; at < 2 * sizeof lengths / sizeof lengths[0]; at++) {
+        const collector_unit unit = {.first = 0, .blocks = at % 2 ? 1 : COLLECTOR_MAX_BLOCKS};
+
+        store->unit = unit;
         memset(&store->record, FILL, sizeof store->record);
-        EQUAL(number_of(collector_make(&store->record, UINT64_MAX, 1, 2, 3, store->medium, lengths[at])),
+        EQUAL(number_of(collector_make(&store->record, UINT64_MAX, 1, 2, 3, &store->unit, 1, store->medium,
+                                       lengths[at / 2])),
               COLLECTOR_BAD_MEDIUM);
         CHECK(same_record(&store->record, &zero));
+        CHECK(same_unit(&store->unit, &unit));
     }
 }
 
-/* Another medium's size is refused as 11, a record of one block more as 10, whatever its stage; nothing changes. */
+/* Another medium's size is refused as 11, a unit of one block over the limit as 10, whatever the stage; nothing changes. */
 static void misfits(store *store)
 {
     static const uint8_t codes[] = {CAPACITY, READ, WRITE, VERIFY};
     collector_record before;
+    collector_unit unit;
 
     for (size_t at = 0; at < sizeof codes; at++) {
         plug(store, COLLECTOR_MAX_BLOCKS);
@@ -73,18 +81,20 @@ static void misfits(store *store)
         store->length += 1024;
         EQUAL(number_of(ask_of(store)), COLLECTOR_BAD_MEDIUM);
         EQUAL(send_to(store, store->buffer, 64), COLLECTOR_BAD_MEDIUM);
-        before.blocks = store->record.blocks = COLLECTOR_MAX_BLOCKS + 1;
+        store->unit.blocks = COLLECTOR_MAX_BLOCKS + 1;
+        unit = store->unit;
         EQUAL(number_of(ask_of(store)), COLLECTOR_BAD_RECORD);
         EQUAL(send_to(store, store->buffer, 64), COLLECTOR_BAD_RECORD);
         EQUAL(request(store, SET_CONFIGURATION), COLLECTOR_BAD_RECORD);
-        EQUAL(number_of(collector_bus_reset(&store->record)), COLLECTOR_BAD_RECORD);
-        EQUAL(number_of(collector_set_switch(&store->record, COLLECTOR_SWITCH_CLOSED)), COLLECTOR_BAD_RECORD);
+        EQUAL(number_of(collector_bus_reset(&store->record, &store->unit, 1)), COLLECTOR_BAD_RECORD);
+        EQUAL(set_switch(store, COLLECTOR_SWITCH_CLOSED), COLLECTOR_BAD_RECORD);
         CHECK(same_record(&store->record, &before));
+        CHECK(same_unit(&store->unit, &unit));
         CHECK(filled(store->buffer, sizeof store->buffer, FILL));
     }
 }
 
-/* A command on blocks that lie in the largest medium, or fail with 05/21/00. */
+/* A command on blocks that lie in the largest unit, or fail with 05/21/00. */
 static void expect_range(store *store, uint8_t code, uint32_t block, uint16_t count, bool passes)
 {
     uint8_t stage = COLLECTOR_STAGE_PASSED;
@@ -100,9 +110,9 @@ static void expect_range(store *store, uint8_t code, uint32_t block, uint16_t co
     }
     EQUAL(store->record.stage, stage);
     EQUAL(store->record.place, place);
-    EQUAL(store->record.sense_key, passes ? 0x00 : 0x05);
-    EQUAL(store->record.sense_asc, passes ? 0x00 : 0x21);
-    EQUAL(store->record.sense_ascq, 0x00);
+    EQUAL(store->unit.sense_key, passes ? 0x00 : 0x05);
+    EQUAL(store->unit.sense_asc, passes ? 0x00 : 0x21);
+    EQUAL(store->unit.sense_ascq, 0x00);
 }
 
 /* Address plus count does not wrap. */
@@ -157,17 +167,17 @@ static void far_blocks(store *store)
         CHECK(filled(store->medium + end, (size_t)512 * firsts[at] - end, 0));
         end = (size_t)512 * firsts[at] + 1024;
     }
-    EQUAL(end, COLLECTOR_MAX_MEDIUM_SIZE);
+    EQUAL(end, LARGEST);
 }
 
-/* The longest Read, at the end of the largest medium. */
+/* The longest Read, at the end of the largest unit. */
 static void long_read(store *store)
 {
-    const size_t first = COLLECTOR_MAX_MEDIUM_SIZE - 65535 * 512;
+    const size_t first = LARGEST - 65535 * 512;
 
     plug(store, COLLECTOR_MAX_BLOCKS);
     start(store, READ, COLLECTOR_MAX_BLOCKS - 65535, 65535, 65535 * 512);
-    for (size_t place = first; place < COLLECTOR_MAX_MEDIUM_SIZE; place += 64) {
+    for (size_t place = first; place < LARGEST; place += 64) {
         EQUAL(store->record.place, place);
         expect_data(store, store->medium + place, 64);
     }
@@ -185,6 +195,6 @@ void medium_sizes(void)
     range(&store);
     far_blocks(&store);
     long_read(&store);
-    CHECK(filled(store.medium + COLLECTOR_MAX_MEDIUM_SIZE, 512, 0));
+    CHECK(filled(store.medium + LARGEST, 512, 0));
     free(store.medium);
 }

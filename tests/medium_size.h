@@ -1,5 +1,5 @@
 /*
- * Media of each size that is served, and of sizes that are not.
+ * Units of each size that is served, and media that are not their unit's size.
  */
 #ifndef MEDIUM_SIZE_H
 #define MEDIUM_SIZE_H

@@ -72,9 +72,9 @@ void page_codes(void)
         if (page)
             expect_stage(&bench, COLLECTOR_STAGE_PAGE, 0, page->size, code);
         EQUAL(bench.record.stage == COLLECTOR_STAGE_INQUIRY, standard);
-        EQUAL(bench.record.sense_key, sent ? 0x00 : 0x05);
-        EQUAL(bench.record.sense_asc, sent ? 0x00 : 0x24);
-        EQUAL(bench.record.sense_ascq, 0x00);
+        EQUAL(bench.unit.sense_key, sent ? 0x00 : 0x05);
+        EQUAL(bench.unit.sense_asc, sent ? 0x00 : 0x24);
+        EQUAL(bench.unit.sense_ascq, 0x00);
         if (sent) {
             EQUAL(data_in(&bench), sent);
             if (page)
@@ -107,7 +107,7 @@ static void expect_record(uint32_t value, uint32_t place, uint32_t left)
     EQUAL(control(&other, MASS_STORAGE_RESET), fits ? COLLECTOR_ACK : COLLECTOR_BAD_RECORD);
     EQUAL(same(&other, &before), !fits);
     other = before;
-    EQUAL(number_of(collector_bus_reset(&other.record)), fits ? COLLECTOR_ACK : COLLECTOR_BAD_RECORD);
+    EQUAL(reset(&other), fits ? COLLECTOR_ACK : COLLECTOR_BAD_RECORD);
     EQUAL(same(&other, &before), !fits);
     other = before;
     EQUAL(turn_switch(&other, COLLECTOR_SWITCH_CLOSED), fits ? COLLECTOR_ACK : COLLECTOR_BAD_RECORD);

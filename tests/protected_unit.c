@@ -31,7 +31,7 @@ static void expect_protected(uint32_t block, uint32_t count, uint32_t announced,
     command(&bench, announced, direction, command_block);
     expect_stage(&bench, COLLECTOR_STAGE_FAILED, 0, 0, 0);
     expect_command(&bench, announced, announced);
-    expect_unit_sense(&bench.record, 0x07, 0x27, 0);
+    expect_unit_sense(&bench.unit, 0x07, 0x27, 0);
     EQUAL(bench.record.flags, COLLECTOR_FLAG_CONFIGURED | halt);
     EQUAL(send_packet(&bench, bench.buffer, 64), halt == COLLECTOR_FLAG_HALT_OUT ? COLLECTOR_STALL : COLLECTOR_NAK);
     if (halt == COLLECTOR_FLAG_HALT_IN) {
@@ -69,11 +69,11 @@ static void fields_first(void)
         command(&bench, 0, 0x00, block);
         EQUAL(bench.record.stage, COLLECTOR_STAGE_FAILED);
         if ((flags & 0xE0) || (control_byte & 0x07))
-            expect_unit_sense(&bench.record, 0x05, 0x24, 0);
+            expect_unit_sense(&bench.unit, 0x05, 0x24, 0);
         else if (address == BLOCKS)
-            expect_unit_sense(&bench.record, 0x05, 0x21, BLOCKS);
+            expect_unit_sense(&bench.unit, 0x05, 0x21, BLOCKS);
         else
-            expect_unit_sense(&bench.record, 0x07, 0x27, 0);
+            expect_unit_sense(&bench.unit, 0x07, 0x27, 0);
     }
 }
 
@@ -83,10 +83,10 @@ static void expect_refused(store *store, uint32_t blocks, uint32_t block, uint16
     const bool outside = (uint64_t)block + count > blocks;
 
     plug(store, blocks);
-    EQUAL(number_of(collector_set_switch(&store->record, COLLECTOR_SWITCH_CLOSED)), COLLECTOR_ACK);
+    EQUAL(set_switch(store, COLLECTOR_SWITCH_CLOSED), COLLECTOR_ACK);
     start(store, WRITE, block, count, 0);
     EQUAL(store->record.stage, COLLECTOR_STAGE_FAILED);
-    expect_unit_sense(&store->record, outside ? 0x05 : 0x07, outside ? 0x21 : 0x27,
+    expect_unit_sense(&store->unit, outside ? 0x05 : 0x07, outside ? 0x21 : 0x27,
                       !outside ? 0 : block > blocks ? block : blocks);
 }
 
@@ -231,13 +231,13 @@ static void stored(void)
             EQUAL(send_packet(&bench, packet, sizeof packet), COLLECTOR_ACK);
         }
         expect_status(&bench, "\x00\x00\x00\x00", 0);
-        expect_unit_sense(&bench.record, 0x00, 0x00, 0);
+        expect_unit_sense(&bench.unit, 0x00, 0x00, 0);
         CHECK(filled(bench.medium, 512, 0) && filled(bench.medium + 512, 1024, 0x5A) && filled(bench.medium + 1536, 512, 0));
         command(&bench, 1024, 0x00, WRITE_TWO_FROM_ONE);
         EQUAL(send_packet(&bench, packet, sizeof packet), COLLECTOR_STALL);
         EQUAL(control(&bench, CLEAR_OUT), COLLECTOR_ACK);
         expect_status(&bench, "\x00\x04\x00\x00", 1);
-        expect_unit_sense(&bench.record, 0x07, 0x27, 0);
+        expect_unit_sense(&bench.unit, 0x07, 0x27, 0);
     }
 }
 

@@ -27,15 +27,15 @@ void reach(bench *bench, unsigned stage)
         return;
     case COLLECTOR_STAGE_REQUEST_SENSE:
         command(bench, 0, 0x00, UNKNOWN_CODE);
-        EQUAL(bench->record.sense_key, 0x05);
-        EQUAL(bench->record.sense_asc, 0x20);
-        EQUAL(bench->record.sense_ascq, 0x00);
+        EQUAL(bench->unit.sense_key, 0x05);
+        EQUAL(bench->unit.sense_asc, 0x20);
+        EQUAL(bench->unit.sense_ascq, 0x00);
         expect_status(bench, "\x00\x00\x00\x00", 1);
         command(bench, 18, 0x80, REQUEST_SENSE);
         expect_stage(bench, COLLECTOR_STAGE_REQUEST_SENSE, 0, 18, 0x05 + 256 * 0x20);
-        EQUAL(bench->record.sense_key, 0x00);
-        EQUAL(bench->record.sense_asc, 0x00);
-        EQUAL(bench->record.sense_information, 0);
+        EQUAL(bench->unit.sense_key, 0x00);
+        EQUAL(bench->unit.sense_asc, 0x00);
+        EQUAL(bench->unit.sense_information, 0);
         return;
     case COLLECTOR_STAGE_INQUIRY:
         command(bench, 64, 0x80, INQUIRY);
@@ -79,7 +79,7 @@ void refused(const bench *damaged)
 {
     bench bench = *damaged;
 
-    EQUAL(number_of(collector_bus_reset(&bench.record)), COLLECTOR_BAD_RECORD);
+    EQUAL(reset(&bench), COLLECTOR_BAD_RECORD);
     EQUAL(control(&bench, SET_CONFIGURATION), COLLECTOR_BAD_RECORD);
     EQUAL(send_packet(&bench, bench.buffer, 64), COLLECTOR_BAD_RECORD);
     EQUAL(ask(&bench), COLLECTOR_BAD_RECORD);
@@ -103,7 +103,7 @@ static void must_be_a_position(const bench *reached)
 {
     for (int position = 2; position < 256; position++) {
         bench damaged = *reached;
-        damaged.record.write_switch = (uint8_t)position;
+        damaged.unit.write_switch = (uint8_t)position;
         refused(&damaged);
     }
 }
@@ -165,21 +165,22 @@ void records_that_do_not_decode(void)
     must_be_zero(&passed, offsetof(collector_record, extra));
 }
 
-#define REFUSED_WITH(at_stage, field, with)                     \
+#define DAMAGED_WITH(at_stage, field, with)                     \
     do {                                                        \
         bench damaged;                                          \
         reach(&damaged, at_stage);                              \
-        damaged.record.field = with;                            \
+        damaged.field = with;                                   \
         refused(&damaged);                                      \
-        damaged.record.write_switch = COLLECTOR_SWITCH_CLOSED;  \
+        damaged.unit.write_switch = COLLECTOR_SWITCH_CLOSED;    \
         refused(&damaged);                                      \
     } while (0)
+#define REFUSED_WITH(at_stage, field, with) DAMAGED_WITH(at_stage, record.field, with)
 
 /* Document 01's rules under number 10, each broken, with the switch open and closed. */
 void records_that_do_not_fit(void)
 {
-    REFUSED_WITH(COLLECTOR_STAGE_READY, blocks, 0);
-    REFUSED_WITH(COLLECTOR_STAGE_READY, blocks, COLLECTOR_MAX_BLOCKS + 1);
+    DAMAGED_WITH(COLLECTOR_STAGE_READY, unit.blocks, 0);
+    DAMAGED_WITH(COLLECTOR_STAGE_READY, unit.blocks, COLLECTOR_MAX_BLOCKS + 1);
     REFUSED_WITH(COLLECTOR_STAGE_READY, number, COLLECTOR_MAX_NUMBER + 1);
     REFUSED_WITH(COLLECTOR_STAGE_READY, address, 0x80);
     REFUSED_WITH(COLLECTOR_STAGE_READY, flags, COLLECTOR_FLAG_HALT_IN);

@@ -37,7 +37,7 @@ static void expect_sense(store *store, const uint8_t data[SENSE_SIZE])
 
     wrapper(packet, SENSE_SIZE, 0x80, REQUEST_SENSE);
     EQUAL(send_to(store, packet, sizeof packet), COLLECTOR_ACK);
-    expect_unit_sense(&store->record, 0x00, 0x00, 0);
+    expect_unit_sense(&store->unit, 0x00, 0x00, 0);
     expect_data(store, data, SENSE_SIZE);
     EQUAL(store->record.extra, 0);
     expect_end(store, PASSED);
@@ -53,9 +53,9 @@ static void expect_told(store *store, uint8_t code, uint32_t block, uint16_t cou
     start(store, code, block, count, 0);
     EQUAL(store->record.stage, COLLECTOR_STAGE_FAILED);
     EQUAL(store->record.extra, 0);
-    expect_unit_sense(&store->record, 0x05, 0x21, number);
+    expect_unit_sense(&store->unit, 0x05, 0x21, number);
     expect_end(store, FAILED);
-    expect_unit_sense(&store->record, 0x05, 0x21, number);
+    expect_unit_sense(&store->unit, 0x05, 0x21, number);
     expect_sense(store, told);
     expect_sense(store, none);
 }
@@ -68,7 +68,7 @@ static void paper(store *store)
     for (int code = 0; code < CODES; code++) {
         plug(store, 128);
         start(store, codes[code], 120, 10, 0);
-        EQUAL(store->record.sense_information, 128);
+        EQUAL(store->unit.sense_information, 128);
         expect_end(store, FAILED);
         expect_sense(store, data);
     }
@@ -113,7 +113,7 @@ static void every_number(store *store)
                 continue;
             }
             start(store, codes[at % CODES], block, (uint16_t)count, 512 * 16);
-            expect_unit_sense(&store->record, 0x00, 0x00, 0);
+            expect_unit_sense(&store->unit, 0x00, 0x00, 0);
         }
 }
 
@@ -122,7 +122,7 @@ static void fail(bench *bench)
 {
     configure(bench);
     command(bench, 0, 0x00, "\x28\x00\x01\x02\x03\x04\x00\x00\x00\x00");
-    expect_unit_sense(&bench->record, 0x05, 0x21, 0x01020304);
+    expect_unit_sense(&bench->unit, 0x05, 0x21, 0x01020304);
     expect_status(bench, "\x00\x00\x00\x00", 1);
 }
 
@@ -140,7 +140,7 @@ static void cuts(void)
         fail(&bench);
         block[4] = (char)allocated;
         command(&bench, (uint32_t)sent, 0x80, block);
-        expect_unit_sense(&bench.record, 0x00, 0x00, 0);
+        expect_unit_sense(&bench.unit, 0x00, 0x00, 0);
         EQUAL(bench.record.extra, sent ? 0x01020304 : 0);
         if (sent) {
             EQUAL(data_in(&bench), sent);
@@ -173,20 +173,20 @@ static void gone(void)
     for (size_t at = 0; at < sizeof rows / sizeof rows[0]; at++) {
         fail(&bench);
         command(&bench, 0, 0x00, rows[at].block);
-        expect_unit_sense(&bench.record, rows[at].key, rows[at].asc, rows[at].information);
+        expect_unit_sense(&bench.unit, rows[at].key, rows[at].asc, rows[at].information);
     }
     for (size_t at = 0; at < sizeof drops / sizeof drops[0]; at++) {
         fail(&bench);
         EQUAL(control(&bench, drops[at]), COLLECTOR_ACK);
-        expect_unit_sense(&bench.record, 0x00, 0x00, 0);
+        expect_unit_sense(&bench.unit, 0x00, 0x00, 0);
     }
     fail(&bench);
-    EQUAL(number_of(collector_bus_reset(&bench.record)), COLLECTOR_ACK);
-    expect_unit_sense(&bench.record, 0x00, 0x00, 0);
+    EQUAL(reset(&bench), COLLECTOR_ACK);
+    expect_unit_sense(&bench.unit, 0x00, 0x00, 0);
     fail(&bench);
     EQUAL(control(&bench, CLEAR_IN), COLLECTOR_ACK);
     EQUAL(send_packet(&bench, "USBC", 4), COLLECTOR_STALL);
-    expect_unit_sense(&bench.record, 0x05, 0x21, 0x01020304);
+    expect_unit_sense(&bench.unit, 0x05, 0x21, 0x01020304);
 }
 
 void refused_blocks(void)
@@ -210,17 +210,17 @@ static void expect_lent(uint8_t key, uint8_t asc, uint8_t ascq, uint32_t informa
 
     sense_data(data, key, asc, ascq, information);
     configure(&bench);
-    bench.record.sense_key = key;
-    bench.record.sense_asc = asc;
-    bench.record.sense_ascq = ascq;
-    bench.record.sense_information = information;
+    bench.unit.sense_key = key;
+    bench.unit.sense_asc = asc;
+    bench.unit.sense_ascq = ascq;
+    bench.unit.sense_information = information;
     command(&bench, SENSE_SIZE, 0x80, REQUEST_SENSE);
     EQUAL(bench.record.stage, COLLECTOR_STAGE_REQUEST_SENSE);
     EQUAL(bench.record.value, key + 256u * asc + 65536u * ascq);
     EQUAL(bench.record.extra, information);
     EQUAL(data_in(&bench), SENSE_SIZE);
     CHECK(memcmp(bench.buffer, data, SENSE_SIZE) == 0);
-    expect_unit_sense(&bench.record, 0x00, 0x00, 0);
+    expect_unit_sense(&bench.unit, 0x00, 0x00, 0);
     expect_status(&bench, "\x00\x00\x00\x00", 0);
 }
 
@@ -231,18 +231,18 @@ static void expect_kept(unsigned stage)
         bench plain, bench;
 
         reach(&plain, stage);
-        plain.record.sense_key = 0x05;
-        plain.record.sense_asc = 0x21;
-        plain.record.sense_ascq = 0x00;
-        plain.record.sense_information = 0;
+        plain.unit.sense_key = 0x05;
+        plain.unit.sense_asc = 0x21;
+        plain.unit.sense_ascq = 0x00;
+        plain.unit.sense_information = 0;
         bench = plain;
-        bench.record.sense_information = 0x01020304;
+        bench.unit.sense_information = 0x01020304;
         if (packet)
             EQUAL(send_packet(&bench, bench.buffer, 64), send_packet(&plain, plain.buffer, 64));
         else
             EQUAL(ask(&bench), ask(&plain));
-        EQUAL(bench.record.sense_information, 0x01020304);
-        bench.record.sense_information = 0;
+        EQUAL(bench.unit.sense_information, 0x01020304);
+        bench.unit.sense_information = 0;
         CHECK(same(&bench, &plain));
     }
 }
@@ -265,7 +265,7 @@ void refused_block_records(void)
         bench damaged;
 
         make(&damaged);
-        damaged.record.sense_information = (uint32_t)1 << bit;
+        damaged.unit.sense_information = (uint32_t)1 << bit;
         refused(&damaged);
     }
 }

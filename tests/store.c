@@ -1,5 +1,5 @@
 /*
- * A device over a medium of any size, which the caller lends.
+ * A device of one unit over a medium of any size, which the caller lends.
  */
 #include "store.h"
 
@@ -9,12 +9,14 @@
 
 uint32_t send_to(store *store, const uint8_t *packet, size_t length)
 {
-    return number_of(collector_bulk_out(&store->record, store->medium, store->length, packet, length));
+    return number_of(
+        collector_bulk_out(&store->record, &store->unit, 1, store->medium, store->length, packet, length));
 }
 
 collector_answer ask_of(store *store)
 {
-    return collector_bulk_in(&store->record, store->medium, store->length, store->buffer, sizeof store->buffer);
+    return collector_bulk_in(&store->record, &store->unit, 1, store->medium, store->length, store->buffer,
+                             sizeof store->buffer);
 }
 
 void expect_data(store *store, const void *bytes, size_t count)
@@ -28,14 +30,23 @@ void expect_data(store *store, const void *bytes, size_t count)
 
 uint32_t request(store *store, const char *setup)
 {
-    return number_of(collector_control(&store->record, (const uint8_t *)setup, 8, store->buffer, 64));
+    return number_of(
+        collector_control(&store->record, &store->unit, 1, (const uint8_t *)setup, 8, store->buffer, 64));
+}
+
+uint32_t set_switch(store *store, uint8_t position)
+{
+    return number_of(collector_set_switch(&store->record, &store->unit, 1, position, 0));
 }
 
 void plug(store *store, size_t blocks)
 {
     store->length = blocks * COLLECTOR_BLOCK_SIZE;
-    EQUAL(number_of(collector_make(&store->record, 42, 1, 2, 3, store->medium, store->length)), COLLECTOR_ACK);
-    EQUAL(store->record.blocks, blocks);
+    store->unit.first = 0;
+    store->unit.blocks = (uint32_t)blocks;
+    EQUAL(number_of(collector_make(&store->record, 42, 1, 2, 3, &store->unit, 1, store->medium, store->length)),
+          COLLECTOR_ACK);
+    EQUAL(store->unit.blocks, blocks);
     EQUAL(request(store, SET_CONFIGURATION), COLLECTOR_ACK);
 }
 

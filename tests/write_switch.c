@@ -13,7 +13,7 @@ bool same_but_switch(const bench *a, const bench *b)
 {
     bench moved = *a;
 
-    moved.record.write_switch = b->record.write_switch;
+    moved.unit.write_switch = b->unit.write_switch;
     return same(&moved, b);
 }
 
@@ -39,9 +39,9 @@ static void expect_set(const bench *reached)
         bench bench = *reached;
 
         EQUAL(turn_switch(&bench, before), COLLECTOR_ACK);
-        EQUAL(bench.record.write_switch, before);
+        EQUAL(bench.unit.write_switch, before);
         EQUAL(turn_switch(&bench, position), position < POSITIONS ? COLLECTOR_ACK : COLLECTOR_BAD_RECORD);
-        EQUAL(bench.record.write_switch, position < POSITIONS ? position : before);
+        EQUAL(bench.unit.write_switch, position < POSITIONS ? position : before);
         CHECK(same_but_switch(&bench, reached));
     }
 }
@@ -70,7 +70,7 @@ static uint32_t event_of(bench *bench, unsigned event)
         return control(bench, setups[event]);
     switch (event - count) {
     case 0:
-        return number_of(collector_bus_reset(&bench->record));
+        return reset(bench);
     case 1:
         return send_packet(bench, "USBC", 4);
     case 2:
@@ -95,8 +95,8 @@ static void expect_unmoved(const bench *reached)
         EQUAL(turn_switch(&closed, COLLECTOR_SWITCH_CLOSED), COLLECTOR_ACK);
         answer = event_of(&open, event);
         EQUAL(event_of(&closed, event), answer);
-        EQUAL(open.record.write_switch, COLLECTOR_SWITCH_OPEN);
-        EQUAL(closed.record.write_switch, COLLECTOR_SWITCH_CLOSED);
+        EQUAL(open.unit.write_switch, COLLECTOR_SWITCH_OPEN);
+        EQUAL(closed.unit.write_switch, COLLECTOR_SWITCH_CLOSED);
         CHECK(same_but_switch(&open, &closed));
         event++;
     } while (answer != UINT32_MAX);
@@ -125,15 +125,15 @@ void write_switch_events(void)
     configure(&bench);
     command(&bench, 0, 0x00, "\x28\x00\x01\x02\x03\x04\x00\x00\x00\x00");
     expect_status(&bench, "\x00\x00\x00\x00", 1);
-    expect_unit_sense(&bench.record, 0x05, 0x21, 0x01020304);
+    expect_unit_sense(&bench.unit, 0x05, 0x21, 0x01020304);
     expect_both(&bench);
     EQUAL(send_packet(&bench, "USBC", 4), COLLECTOR_STALL);
     EQUAL(bench.record.flags, 15);
     expect_both(&bench);
     /* Only making moves it: it opens the switch. */
     EQUAL(turn_switch(&bench, COLLECTOR_SWITCH_CLOSED), COLLECTOR_ACK);
-    EQUAL(number_of(collector_make(&bench.record, 42, 1, 2, 3, bench.medium, MEDIUM)), COLLECTOR_ACK);
-    EQUAL(bench.record.write_switch, COLLECTOR_SWITCH_OPEN);
+    EQUAL(number_of(collector_make(&bench.record, 42, 1, 2, 3, &bench.unit, 1, bench.medium, MEDIUM)), COLLECTOR_ACK);
+    EQUAL(bench.unit.write_switch, COLLECTOR_SWITCH_OPEN);
 }
 
 /* A record in the middle of Mode Sense's data, whatever its own switch: the bytes are of the position that it tells. */
@@ -143,7 +143,7 @@ static void expect_record(uint8_t position, uint32_t told, uint32_t place, uint3
 
     configure(&bench);
     command(&bench, 64, 0x80, MODE_SENSE);
-    bench.record.write_switch = position;
+    bench.unit.write_switch = position;
     bench.record.value = told;
     bench.record.place = place;
     bench.record.left = left;
@@ -160,40 +160,42 @@ static void expect_record(uint8_t position, uint32_t told, uint32_t place, uint3
     CHECK(memcmp(bench.buffer, mode_data[told] + place, left) == 0);
     expect_stage(&bench, COLLECTOR_STAGE_PASSED, 0, 0, 0);
     expect_command(&bench, 64, 64 - left);
-    EQUAL(bench.record.write_switch, position);
+    EQUAL(bench.unit.write_switch, position);
 }
 
-/* An unconfigured record may have it closed: the bulk pipes are silent as ever, and once configured it fails a Write. */
+/* An unconfigured device may have it closed: the bulk pipes are silent as ever, and once configured it fails a Write. */
 static void unconfigured(void)
 {
     bench bench, before;
 
     make(&bench);
-    bench.record.write_switch = COLLECTOR_SWITCH_CLOSED;
+    bench.unit.write_switch = COLLECTOR_SWITCH_CLOSED;
     before = bench;
     EQUAL(ask(&bench), COLLECTOR_SILENT);
     EQUAL(send_packet(&bench, bench.buffer, 64), COLLECTOR_SILENT);
     EQUAL(control(&bench, GET_MAX_LUN), COLLECTOR_STALL);
-    EQUAL(number_of(collector_bus_reset(&bench.record)), COLLECTOR_ACK);
+    EQUAL(reset(&bench), COLLECTOR_ACK);
     CHECK(same(&bench, &before));
     EQUAL(control(&bench, SET_CONFIGURATION), COLLECTOR_ACK);
-    EQUAL(bench.record.write_switch, COLLECTOR_SWITCH_CLOSED);
+    EQUAL(bench.unit.write_switch, COLLECTOR_SWITCH_CLOSED);
     command(&bench, 0, 0x00, WRITE_TWO_FROM_ONE);
-    expect_unit_sense(&bench.record, 0x07, 0x27, 0);
+    expect_unit_sense(&bench.unit, 0x07, 0x27, 0);
 }
 
-/* The reserved byte after it is no part of it. */
+/* The reserved bytes of the unit are no part of it. */
 static void beside_reserved(uint8_t value)
 {
     bench bench;
 
     configure(&bench);
-    bench.record.reserved1 = value;
-    expect_reply(&bench, MODE_SENSE, mode_data[COLLECTOR_SWITCH_OPEN], MODE_SIZE);
-    bench.record.reserved1 = value;
-    EQUAL(turn_switch(&bench, COLLECTOR_SWITCH_CLOSED), COLLECTOR_ACK);
-    bench.record.reserved1 = value;
-    expect_reply(&bench, MODE_SENSE, mode_data[COLLECTOR_SWITCH_CLOSED], MODE_SIZE);
+    for (uint8_t position = 0; position < POSITIONS; position++) {
+        bench.unit.reserved0 = value;
+        memset(bench.unit.reserved1, value, sizeof bench.unit.reserved1);
+        EQUAL(turn_switch(&bench, position), COLLECTOR_ACK);
+        bench.unit.reserved0 = value;
+        memset(bench.unit.reserved1, value, sizeof bench.unit.reserved1);
+        expect_reply(&bench, MODE_SENSE, mode_data[position], MODE_SIZE);
+    }
 }
 
 void write_switch_records(void)

@@ -1,8 +1,8 @@
-"""The text form of a recording: one event a line, and after `->` the answer that document 01 gives.
+"""The text form of a recording: one event a line, and after `->` the answer that documents 01 and 02 give.
 
     reset                               setup 80 06 00 01 00 00 12 00
     out 55 53 42 ..                     out 64 x 07          (64 bytes of 07)
-    in                                  switch open     switch closed
+    in                                  switch open     switch closed 2     (of unit 2; of unit 0 where none is named)
     configure 1     address 5           clear in     set out     status in     msreset     maxlun
     descriptor device 18                (device, configuration, languages, vendor, product, serial)
     cbw tag=7 len=36 in COMMAND         (tag, len, in or out, unit=, size=, control=; what is left out is 1, 0, out, 0, the code's, 0)
@@ -11,6 +11,7 @@ COMMAND is a name with its numbers, or the block's bytes, the control byte among
 Answers: ack, nak, stall, silent, and data in these forms:
     data 00 01 ..      data none     data 64 x 00      csw tag=7 residue=0 passed
 A line `repeat N` repeats the next line N times; `#` begins a comment.
+A line `units 64 7 1 128` says how many blocks each unit has; without one there is one unit of 64, as on the bench.
 """
 import struct
 
@@ -18,6 +19,7 @@ NAMES = {"device": 0x0100, "configuration": 0x0200, "languages": 0x0300, "vendor
 ENDPOINTS = {"in": 0x81, "out": 0x02, "control": 0x00}
 STATUS = {"passed": 0, "failed": 1, "phase": 2}
 POSITIONS = {"open": 0, "closed": 1}
+BENCH = [64]
 
 
 def number(word):
@@ -99,7 +101,7 @@ def event(words):
     if w == "cbw":
         return 3, cbw(rest)
     if w == "switch":
-        return 5, bytes([POSITIONS[rest[0]]])
+        return 5, bytes([POSITIONS[rest[0]], number(rest[1]) if rest[1:] else 0])
     forms = {
         "setup": lambda: octets(rest),
         "configure": lambda: setup(0x00, 0x09, number(rest[0])),
@@ -123,14 +125,27 @@ def answer(words):
     return "data %d" % len(data) + "".join(" %02X" % b for b in data)
 
 
+def lines(text):
+    """The lines that say something, each with its number."""
+    for n, line in enumerate(text.splitlines(), 1):
+        line = line.split("#")[0].strip()
+        if line:
+            yield n, line
+
+
+def units(text):
+    """The blocks of each unit."""
+    said = [[number(w) for w in line.split()[1:]] for _, line in lines(text) if line.startswith("units ")]
+    return said[0] if said else BENCH
+
+
 def read(text):
     """The events, and the answers that are expected (None where a line gives none)."""
     events, answers, times = [], [], 1
-    for n, line in enumerate(text.splitlines(), 1):
-        line = line.split("#")[0].strip()
-        if not line:
-            continue
+    for n, line in lines(text):
         try:
+            if line.startswith("units "):
+                continue
             if line.startswith("repeat "):
                 times = number(line.split()[1])
                 continue

@@ -2,23 +2,23 @@
 use Prim.Native.Nat.{ℕ, _≤_}
 use mathlib.Core.Path.{_≡_, refl, subst}
 use mathlib.Core.Bool.{true}
-use mathlib.Core.List.{List, [], _∷_}
+use mathlib.Core.List.{List}
 use native.Mathlib.Omega.{arith}
-use lib.ListN.{drop}
-use borrow.Author.Tests.{le-leb, leb-true, ltb-true}
-use Rattle.wire.proofs.Cases.{both, by-if, if-true}
+use lib.ListN.{length, drop}
+use borrow.Author.Tests.{le-leb}
+use Rattle.wire.proofs.Cases.{by-if, if-true}
 use Rattle.scsi.specs.declared.command.Plan.{Plan}
 use Rattle.scsi.specs.declared.command.Plan.the-variants.{Failed, Nothing, Reply, Read, Write}
 use Rattle.scsi.proofs.Plans.{PlanFits, plan-fits}
 use Rattle.bot.specs.Cbw.{headerOf}
 use Rattle.bot.specs.declared.cbw.Header.{Header}
-use Rattle.machine.specs.declared.record.LogicalUnit.{LogicalUnit}
 use Rattle.machine.specs.declared.record.State.{State}
 use Rattle.machine.specs.declared.wrapper.Wrapper.{Wrapper}
 use Rattle.machine.specs.declared.wrapper.Wrapper.the-variants.{Broken, Good}
 use Rattle.machine.specs.Begin.{begun, begunUnit}
-use Rattle.machine.specs.Units.{mostBlocks, sizeFits, unitAt, isProtected}
+use Rattle.machine.specs.Units.{Table, mostBlocks, unitAt, isProtected, laidOut}
 use Rattle.machine.specs.Wrapper.{accepted, planFor, wrapperOf}
+use Rattle.machine.proofs.Tables.{unit-small}
 use Rattle.begin.specs.InRange.{isInRange, pair, begunInRange}
 
 in-range : (n : ℕ) (p : Plan) → n ≤ mostBlocks → PlanFits n p → isInRange p ≡ true
@@ -31,18 +31,18 @@ in-range n (Write block count) h f = refl
 
 abbrev InRangeWrapper : Wrapper → Type 0
 InRangeWrapper Broken = Unit {0}
-InRangeWrapper (Good h p) = (h .lun ≡ 0) × (isInRange p ≡ true)
+InRangeWrapper (Good h p) = isInRange p ≡ true
 
-wrapper-in-range : (u : LogicalUnit) (p : List ℕ) → sizeFits (u .blocks) ≡ true → InRangeWrapper (wrapperOf (u ∷ []) p)
-unfolding sizeFits wrapperOf accepted
-wrapper-in-range u p s = by-if InRangeWrapper (accepted 1 p) _ _ good (λ _. tt)
-  where
-    good : accepted 1 p ≡ true → InRangeWrapper (Good (headerOf p) (planFor (unitAt (u ∷ []) (headerOf p .lun)) (drop 15 p)))
-    good a =
-        let z : headerOf p .lun ≡ 0 = omega (arith, ltb-true (headerOf p .lun) 1 (both _ _ (both _ _ a .1) .0)) in
-        (z, rw z (in-range (u .blocks) (planFor u (drop 15 p)) (leb-true _ _ (both _ _ s .1)) (plan-fits (drop 15 p) (u .blocks) (isProtected u))))
+wrapper-in-range : (us : Table) (p : List ℕ) → laidOut us ≡ true → InRangeWrapper (wrapperOf us p)
+unfolding wrapperOf
+wrapper-in-range us p l =
+    let u = unitAt us (headerOf p .lun) in
+    by-if InRangeWrapper (accepted (length us) p) _ _
+    (λ _. in-range (u .blocks) (planFor u (drop 15 p)) (unit-small us (headerOf p .lun) l) (plan-fits (drop 15 p) (u .blocks) (isProtected u)))
+    (λ _. tt)
 
--- in a unit of a size that is served an accepted wrapper, which names unit 0, begins its command
-pub wrapper-begins : (u : LogicalUnit) (p : List ℕ) (h : Header) (plan : Plan) (s : State) → sizeFits (u .blocks) ≡ true → wrapperOf (u ∷ []) p ≡ Good h plan → (h .lun ≡ 0) × (begunInRange h plan s u ≡ pair (begun h plan s u) (begunUnit h plan u))
+-- in a table that is laid out an accepted wrapper begins its command
+pub wrapper-begins : (us : Table) (p : List ℕ) (h : Header) (plan : Plan) (s : State) → laidOut us ≡ true → wrapperOf us p ≡ Good h plan
+    → begunInRange h plan s (unitAt us (h .lun)) ≡ pair (begun h plan s (unitAt us (h .lun))) (begunUnit h plan (unitAt us (h .lun)))
 unfolding begunInRange
-wrapper-begins u p h plan s f e = let r = subst InRangeWrapper e (wrapper-in-range u p f) in (r .0, if-true _ _ _ (r .1))
+wrapper-begins us p h plan s l e = if-true _ _ _ (subst InRangeWrapper e (wrapper-in-range us p l))

@@ -20,9 +20,9 @@ use scsi::command::Plan;
 use scsi::reply::Reply;
 use scsi::reply::ReplyKind;
 use scsi::sense::Sense;
-use state::states::is_protected;
 use state::states::moved;
-use state::states::with_sense;
+use units::unit::is_protected;
+use units::unit::with_sense;
 
 fn host_of(header: Header) -> Transfer
     ensures { λ r. ⌜ r ≡ hostOf header ⌝ }

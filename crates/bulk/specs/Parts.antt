@@ -2,31 +2,38 @@
 use Prim.Native.Nat.{ℕ, _+_, _*_, _-_, _≤_, _<_}
 use mathlib.Core.Path.{_≡_}
 use mathlib.Core.Bool.{true}
-use mathlib.Core.List.{List, [], _∷_}
+use mathlib.Core.List.{List}
 use lib.ListN.{length, take, drop}
 use Rattle.scsi.specs.Reply.{replyData}
 use Rattle.scsi.specs.declared.reply.Reply as replies
-use Rattle.machine.specs.declared.record.LogicalUnit.{LogicalUnit}
 use Rattle.machine.specs.declared.record.Stage.the-variants.{DataIn, ReplyIn}
 use Rattle.machine.specs.declared.record.State.{State}
 use Rattle.machine.specs.declared.ask.Source.the-variants as source
 use Rattle.machine.specs.declared.ask.Asked.{Asked}
 use Rattle.machine.specs.declared.ask.Asked.the-variants.{Quiet, Packet}
-use Rattle.machine.specs.Units.{blockSize, mostBlocks, sizeFits}
+use Rattle.machine.specs.Units.{blockSize, mostBlocks, Table, unitAt, laidOut, mediumFits}
 use Rattle.machine.specs.Fits.{taskFits}
 
--- A state whose task fits its unit, which has the whole medium.
-pub record Sound (s : State) (u : LogicalUnit) (m : List ℕ) : Type 0 where
-  pub first : u .first ≡ 0
-  pub size : sizeFits (u .blocks) ≡ true
-  pub running : taskFits (u ∷ []) (s .link .task) ≡ true
-  pub whole : length m ≡ 512 * u .blocks
+-- A state whose task fits a table, which is laid out over the medium.
+pub record Sound (s : State) (us : Table) (m : List ℕ) : Type 0 where
+  pub laid : laidOut us ≡ true
+  pub running : taskFits us (s .link .task) ≡ true
+  pub whole : mediumFits us m ≡ true
 
--- A write with a block due.
+-- A write with a block due, in the unit's part of the medium.
 pub record Gathering (s : State) (block left held : ℕ) (m : List ℕ) : Type 0 where
   pub within : block < mostBlocks
   pub place : 512 * block + 512 ≤ length m
   pub room : held ≤ 448
+  pub due : 512 ≤ s .link .task .residue
+
+-- The same in the medium: the unit's part lies in it.
+pub record Due (s : State) (us : Table) (block left held : ℕ) (m : List ℕ) : Type 0 where
+  pub room : 512 * unitAt us (s .link .task .lun) .first + 512 * unitAt us (s .link .task .lun) .blocks ≤ length m
+  pub write : block + left ≤ unitAt us (s .link .task .lun) .blocks
+  pub small : unitAt us (s .link .task .lun) .blocks ≤ mostBlocks
+  pub some : 1 ≤ left
+  pub part : held ≤ 448
   pub due : 512 ≤ s .link .task .residue
 
 -- Bytes that are due lie in their source, and in the residue.
@@ -43,9 +50,9 @@ pub record Askable (s : State) : Type 0 where
 abbrev pub between : ℕ → ℕ → List ℕ → List ℕ
 between a z s = take (z - a) (drop a s)
 
--- The bytes of a packet lie in their source.
-abbrev pub Within : State → List ℕ → Asked → Type 0
-Within s m (Quiet a) = Unit {0}
-Within s m (Packet (source.Medium place n) t) = (s .link .task .lun ≡ 0) × (place + n ≤ length m)
-Within s m (Packet (source.Reply r place n) t) = (k : ℕ) → place + n ≤ length (replyData k r)
-Within s m (Packet (source.Status c) t) = Unit {0}
+-- The bytes of a packet lie in their source: the part of the unit that the task names, or the reply.
+abbrev pub Within : State → Table → Asked → Type 0
+Within s us (Quiet a) = Unit {0}
+Within s us (Packet (source.Medium place n) t) = place + n ≤ 512 * unitAt us (s .link .task .lun) .blocks
+Within s us (Packet (source.Reply r place n) t) = (k : ℕ) → place + n ≤ length (replyData k r)
+Within s us (Packet (source.Status c) t) = Unit {0}

@@ -1,80 +1,130 @@
--- An event on C's numbers, undecoded and decoded. Assumes nothing.
-use Prim.Native.Nat.{ℕ, _<_}
+-- An event on C's numbers, refused, and decoded. Assumes nothing.
+use Prim.Native.Nat.{ℕ, _≤_, _<_}
 use mathlib.Core.Path.{_≡_, refl, sym, ap, _∙_}
-use mathlib.Core.Bool.{true, false}
-use mathlib.Core.List.{List, [], _∷_}
+use mathlib.Core.Bool.{Bool, true, false}
+use mathlib.Core.List.{List, []}
 use native.Mathlib.Omega.{arith}
-use Rattle.wire.proofs.Cases.{by-if, if-true, if-false}
+use lib.Dec.{leb}
+use lib.ListN.{length}
+use borrow.Author.Tests.{le-leb, lt-leb, leb-true, leb-false}
+use Rattle.wire.specs.Choice.{if_then_else_, _and_}
+use Rattle.wire.proofs.Cases.{and-false, both, by-if, if-true, if-false}
 use Rattle.usb.specs.declared.descriptor.Identity.{Identity}
 use Rattle.machine.specs.declared.answer.Answer.{Answer}
-use Rattle.machine.specs.declared.answer.Answer.the-variants.{Data, Ack, Nak, Stall, Silent, Refused}
-use Rattle.machine.specs.declared.record.LogicalUnit.{LogicalUnit}
+use Rattle.machine.specs.declared.answer.Answer.the-variants.{Refused}
+use Rattle.machine.specs.declared.answer.Refusal.the-variants as refusal
 use Rattle.machine.specs.declared.record.State.{State}
 use Rattle.machine.specs.Answer.{numberOf, countOf}
+use Rattle.machine.specs.Units.{Table, laidOut}
 use Rattle.machine.specs.Record.{device}
-use Rattle.machine.specs.Making.{Made, made, make, ToldMade, toldMade}
-use Rattle.machine.specs.World.{World, world, out}
-use Rattle.machine.specs.Machine.{Event, lent, control, Told, told, step}
-use Rattle.state.specs.declared.gate.Moved.{Moved}
-use Rattle.collector.specs.declared.making.Made as mades
+use Rattle.machine.specs.Fits.{fits}
+use Rattle.machine.specs.World.{World, world, Out, out}
+use Rattle.machine.specs.Machine.{Event, busReset, control, bulkOut, bulkIn, setSwitch, lent, Told, told, fitting, checks, check, inOrder, judged, step}
+use Rattle.units.specs.declared.table.Units.{Units}
+use Rattle.units.specs.declared.change.Change.{Change}
+use Rattle.units.specs.Held.{tableOf, putBack}
+use Rattle.units.specs.Change.{applied}
+use Rattle.units.proofs.Held.{length-table, put-back}
 use Rattle.cevents.proofs.Asked.{asked}
 use Rattle.crecord.proofs.RoundTrip.{round-trip}
 use Rattle.crecord.specs.declared.record.Given.{Given}
 use Rattle.crecord.specs.declared.record.Flat as flats
+use Rattle.crecord.specs.declared.record.Record.{Record}
 use Rattle.crecord.specs.declared.record.Told as tolds
-use Rattle.crecord.specs.Flat.{decodes, stateFrom, unitFrom, identityFrom, flatOf, givenOf, answer, rec, recordOf}
-use Rattle.cevents.specs.Events.{left, leaves, onRecord, leftMade, leavesMade, onMaking}
+use Rattle.crecord.specs.Flat.{decodes, stateFrom, identityFrom, flatOf, answer, rec, worldFrom}
+use Rattle.cevents.specs.Events.{left, Left, leaves, onRecord, kept}
 
-made-number : (i : Identity) (m : List ℕ) → 0 < numberOf (make i m .answer)
-unfolding make
-made-number i m =
-    let P : Made → Type 0 = λ r. 0 < numberOf (r .answer) in
-    by-if P _ _ _ (λ _. by-if P _ _ _ (λ _. omega arith) (λ _. omega arith)) (λ _. omega arith)
+-- ---- refused: numbers that stand for no record, and a table of more than four units
 
--- What the code of an event leaves is what its step leaves.
-abbrev Turns : Identity → State → LogicalUnit → List ℕ → List ℕ → Event → Moved → List ℕ → List ℕ → List ℕ → Type 0
-Turns i s u p m e x p' m' b' = told (out (x .answer) (world (device i (x .state) p') (x .unit ∷ []) m') b') ≡ told (step (world (device i s p) (u ∷ []) m) e)
+-- a table of more than four units is laid out in no way
+pub unlaid : (us : Table) → 4 < length us → laidOut us ≡ false
+unfolding laidOut _and_
+unlaid us h = simp (lt-leb (length us) 4 h) (and-false (leb 1 (length us)))
 
-module _ (g : Given) (f f' : flats.Flat) (e : Event) (p m : List ℕ) (t : tolds.Told) where
-  pub undecoded : decodes f ≡ false → t ≡ answer 10 0 → f' ≡ f → left t (rec g f' p) m (lent e) ≡ onRecord (rec g f p) m e
+module _ (w : World) (h : 4 < length (w .units)) where
+  unfit : fitting w ≡ false
+  unfolding fits _and_
+  unfit = simp (unlaid (w .units) h)
+
+  stopped : (e : Event) → checks w e .fits ≡ false
+  unfolding checks _and_
+  stopped busReset = unfit
+  stopped (control s b) = unfit
+  stopped (bulkOut p) = unfit
+  stopped (bulkIn b) = unfit
+  stopped (setSwitch x n) = simp unfit
+
+  refused : (e : Event) → step w e ≡ out (Refused refusal.Record) w (lent e)
+  unfolding step inOrder check judged
+  refused e = simp (stopped e)
+
+module _ (r : Record) (us : Table) (m : List ℕ) (e : Event) where
+  abbrev Refuses : Type 0
+  Refuses = left (answer 10 0) r us m (lent e) ≡ onRecord r us m e
+
+  undecoded : decodes (r .flat) ≡ false → Refuses
   unfolding onRecord
-  undecoded d et ef = simp (et, ef) (sym (if-false _ _ _ d))
+  undecoded d = sym (if-false _ _ _ d)
 
-  pub decoded : (i : Identity) (s : State) (u : LogicalUnit) (x : Moved) (p' m' b' : List ℕ)
-      → decodes f ≡ true → i ≡ identityFrom g → s ≡ stateFrom f → u ≡ unitFrom f → Turns i s u p m e x p' m' b'
-      → t ≡ answer (numberOf (x .answer)) (countOf (x .answer)) → f' ≡ flatOf (x .state) (x .unit) → left t (rec g f' p') m' b' ≡ onRecord (rec g f p) m e
+  pub beyond : 4 < length us → Refuses
   unfolding onRecord
-  decoded i s u x p' m' b' d ei es eu h et ef =
-      simp (et, ef)
+  beyond h =
+      by-if (λ (l : Left). left (answer 10 0) r us m (lent e) ≡ l) (decodes (r .flat)) _ _
+      (λ d.
+      ap (λ (x : flats.Flat). left (answer 10 0) (rec (r .given) x (r .part)) us m (lent e)) (sym (round-trip .read-is-written (r .flat) d))
+      ∙ ap (λ (o : Out). leaves (told o)) (sym (refused (worldFrom r us m) h e)))
+      (λ _. refl)
+
+-- The numbers stand for a record, and the table is held whole.
+abbrev Stands : flats.Flat → Units → Bool
+Stands f h = decodes f and leb (h .count) 4
+
+module _ (g : Given) (f : flats.Flat) (h : Units) (e : Event) (p m : List ℕ) where
+  one-false : {P : Type 0} (a b : Bool) → a and b ≡ false → (a ≡ false → P) → (b ≡ false → P) → P
+  unfolding _and_
+  one-false true b n x y = y n
+  one-false false b n x y = x refl
+
+  pub refuses : (t : tolds.Told) (f' : flats.Flat) (c : Bool) (h' : Units) → Stands f h ≡ false → t ≡ answer 10 0 → f' ≡ f → c ≡ false
+      → left t (rec g f' p) (kept c (tableOf h) h') m (lent e) ≡ onRecord (rec g f p) (tableOf h) m e
+  refuses t f' c h' n et ef ec =
+      let l = length-table h in
+      simp (et, ef, ec)
+      (one-false (decodes f) (leb (h .count) 4) n (undecoded (rec g f p) (tableOf h) m e) (λ k. let z : 4 < h .count = leb-false _ _ k in beyond (rec g f p) (tableOf h) m e (omega arith)))
+
+-- ---- decoded: what the code of an event leaves is what its step leaves
+
+abbrev Turns : Identity → State → Table → List ℕ → List ℕ → Event → Answer → State → Table → List ℕ → List ℕ → List ℕ → Type 0
+Turns i s us p m e a s' us' p' m' b' = told (out a (world (device i s' p') us' m') b') ≡ told (step (world (device i s p) us m) e)
+
+module _ (g : Given) (f : flats.Flat) (h : Units) (e : Event) (p m : List ℕ) (i : Identity) (s : State) (a : Answer) (s' : State) (us' : Table) (p' m' b' : List ℕ) where
+  pub decoded : (t : tolds.Told) (f' : flats.Flat) (vs : Table)
+      → Stands f h ≡ true → i ≡ identityFrom g → s ≡ stateFrom f → Turns i s (tableOf h) p m e a s' us' p' m' b'
+      → t ≡ answer (numberOf a) (countOf a) → f' ≡ flatOf s' → (h .count ≤ 4 → vs ≡ us') → left t (rec g f' p') vs m' b' ≡ onRecord (rec g f p) (tableOf h) m e
+  unfolding onRecord
+  decoded t f' vs d ei es w et ef eu =
+      let k = both _ _ d in
+      simp (et, ef, eu (leb-true _ _ (k .1)))
       (ap leaves
-      ((λ j. told (out (x .answer) (world (device (sym ei j) (x .state) p') (x .unit ∷ []) m') b'))
-      ∙ h ∙ (λ j. told (step (world (device (ei j) (es j) p) (eu j ∷ []) m) e)))
-      ∙ sym (if-true _ _ _ d))
+      ((λ j. told (out a (world (device (sym ei j) s' p') us' m') b'))
+      ∙ w ∙ (λ j. told (step (world (device (ei j) (es j) p) (tableOf h) m) e)))
+      ∙ sym (if-true _ _ _ (k .0)))
 
--- A making is never answered with data.
-countless : (a : Answer) (i : Identity) (m : List ℕ) → numberOf a ≡ numberOf (make i m .answer) → countOf a ≡ 0
-countless (Data n) i m e = let z = made-number i m in absurd (omega arith)
-countless Ack i m e = refl
-countless Nak i m e = refl
-countless Stall i m e = refl
-countless Silent i m e = refl
-countless (Refused r) i m e = refl
+-- A control request that is answered with data leaves the numbers and the table as they were.
+module _ (g : Given) (f : flats.Flat) (h : Units) (setup p m b : List ℕ) (i : Identity) (s : State) (a : Answer) (s' : State) (us' : Table) (p' b' : List ℕ) where
+  pub unchanged : (t : tolds.Told) → Stands f h ≡ true → i ≡ identityFrom g → s ≡ stateFrom f → Turns i s (tableOf h) p m (control setup b) a s' us' p' m b'
+      → t ≡ answer (numberOf a) (countOf a) → t .number ≡ 0 → left t (rec g f p') (tableOf h) m b' ≡ onRecord (rec g f p) (tableOf h) m (control setup b)
+  unchanged t d ei es w et z =
+      let v : World = world (device i s p) (tableOf h) m in
+      let n : numberOf (step v (control setup b) .answer) ≡ 0 = sym (ap (λ (y : Told). y .number) w) ∙ sym (ap (λ (y : tolds.Told). y .number) et) ∙ z in
+      let same : world (device i s' p') us' m ≡ v = ap (λ (y : Told). y .world) w ∙ asked v b setup n in
+      let k : flatOf s' ≡ f = ap (λ (y : World). flatOf (y .dev .state)) same ∙ ap flatOf es ∙ round-trip .read-is-written f (both _ _ d .0) in
+      decoded g f h (control setup b) p m i s a s' us' p' m b' t f (tableOf h) d ei es w et (sym k) (λ _. sym (ap (λ (y : World). y .units) same))
 
-pub making : (g : Given) (m : List ℕ) (i : Identity) (x : mades.Made) (t : tolds.Told) (g' : Given) (f' : flats.Flat)
-    → i ≡ identityFrom g → toldMade (made (x .answer) (x .device) (x .unit ∷ [])) ≡ toldMade (make i m) → t ≡ answer (numberOf (x .answer)) (countOf (x .answer))
-    → g' ≡ givenOf (x .device .identity) → f' ≡ flatOf (x .device .state) (x .unit)
-    → leftMade t (rec g' f' (x .device .part)) ≡ onMaking (identityFrom g) m
-unfolding onMaking
-making g m i x t g' f' ei h et eg ef =
-    simp (et, countless (x .answer) i m (ap (λ (y : ToldMade). y .number) h), eg, ef)
-    (ap (λ (y : ToldMade). leavesMade y m) (h ∙ ap (λ (j : Identity). toldMade (make j m)) ei))
+-- ---- a change of the units held by value
 
--- A control request that is answered with data leaves the numbers as they were.
-pub unchanged : (g : Given) (f : flats.Flat) (setup p m b b' p' : List ℕ) (i : Identity) (s : State) (u : LogicalUnit) (x : Moved) (t : tolds.Told)
-    → decodes f ≡ true → i ≡ identityFrom g → s ≡ stateFrom f → u ≡ unitFrom f → Turns i s u p m (control setup b) x p' m b'
-    → t ≡ answer (numberOf (x .answer)) (countOf (x .answer)) → t .number ≡ 0 → left t (rec g f p') m b' ≡ onRecord (rec g f p) m (control setup b)
-unchanged g f setup p m b b' p' i s u x t d ei es eu h et z =
-    let w : World = world (device i s p) (u ∷ []) m in
-    let n : numberOf (step w (control setup b) .answer) ≡ 0 = sym (ap (λ (y : Told). y .number) h) ∙ sym (ap (λ (y : tolds.Told). y .number) et) ∙ z in
-    let k : flatOf (x .state) (x .unit) ≡ flatOf s u = ap (λ (y : World). recordOf y .flat) (ap (λ (y : Told). y .world) h ∙ asked w b setup n) in
-    decoded g f f (control setup b) p m t i s u x p' m b' d ei es eu h et (sym (k ∙ (λ j. flatOf (es j) (eu j)) ∙ round-trip .read-is-written f d))
+-- stored, it is the table's change
+pub changes : (h h' : Units) (x : Change) → h .count ≤ 4 → h' .count ≡ h .count → tableOf h' ≡ (if leb (h .count) 4 then applied x (tableOf h) else tableOf h) → putBack (tableOf h) h' ≡ applied x (tableOf h)
+changes h h' x n c e =
+    let l = length-table h in
+    put-back (tableOf h) h' (omega arith) (c ∙ sym l) ∙ e ∙ if-true _ _ _ (le-leb _ _ n)

@@ -1,2 +1,4 @@
 pub mod Events
+pub mod Spans
 pub mod Ways
+pub mod Quick

@@ -1,33 +1,42 @@
--- The premises of the three quick ways: a packet in the middle of a read, the status of a command that passed, and a packet of a write that has another
--- block to come.
+-- The premises of the quick ways: a whole packet of a read, a whole packet of a write, and the status of a command that passed.
 use Prim.Native.Nat.{ℕ, _*_, _≤_, _<_}
 use mathlib.Core.Path.{_≡_}
 use mathlib.Core.Bool.{true}
-use Rattle.machine.specs.Units.{sizeFits}
+use lib.ListN.{length}
+use Rattle.machine.specs.Units.{Table, unitAt, switchesFit, total, laidOut}
 use Rattle.machine.specs.Fits.{numberFits, outFits, inFits}
 use Rattle.crecord.specs.declared.record.Given.{Given}
 use Rattle.crecord.specs.declared.record.Flat as flats
+use Rattle.cevents.specs.declared.place.Place.{Place}
 
--- A configured device, no pipe halted, over its medium, its switch open or closed, without the number that only a sense on its way has.
-pub record Free (g : Given) (f : flats.Flat) (medium : ℕ) : Type 0 where
+-- A table that fits, the size of its medium, and where its unit n lies.
+pub record Whole (us : Table) (n medium : ℕ) (p : Place) : Type 0 where
+  pub listed : n < length us
+  pub laid : laidOut us ≡ true
+  pub switches : switchesFit us ≡ true
+  pub whole : medium ≡ 512 * total us
+  pub first : p .first ≡ unitAt us n .first
+  pub blocks : p .blocks ≡ unitAt us n .blocks
+
+-- Configured, no pipe halted, and without the number that only a sense on its way has.
+pub record Free (g : Given) (f : flats.Flat) : Type 0 where
   pub flags : f .flags ≡ 1
   pub extra : f .extra ≡ 0
   pub address : f .address ≤ 0x7F
-  pub switch : f .switch ≤ 1
-  pub size : sizeFits (f .blocks) ≡ true
   pub number : numberFits (g .number) ≡ true
-  pub whole : medium ≡ 512 * f .blocks
 
-pub record ReadsOn (g : Given) (f : flats.Flat) (medium buffer : ℕ) : Type 0 where
-  pub free : Free g f medium
+-- The last packet is one that leaves no residue: otherwise a halt comes.
+pub record ReadsOn (g : Given) (f : flats.Flat) (blocks buffer : ℕ) : Type 0 where
+  pub free : Free g f
   pub stage : f .stage ≡ 2
   pub value : f .value ≡ 0
-  pub more : 64 < f .left
-  pub running : inFits (512 * f .blocks) (f .place) (f .left) (f .announced) (f .residue) ≡ true
+  pub packet : 64 ≤ f .left
+  pub last : f .left ≡ 64 → f .residue ≡ 64
+  pub running : inFits (512 * blocks) (f .place) (f .left) (f .announced) (f .residue) ≡ true
   pub room : 64 ≤ buffer
 
-pub record Passes (g : Given) (f : flats.Flat) (medium buffer : ℕ) : Type 0 where
-  pub free : Free g f medium
+pub record Passes (g : Given) (f : flats.Flat) (buffer : ℕ) : Type 0 where
+  pub free : Free g f
   pub stage : f .stage ≡ 7
   pub place : f .place ≡ 0
   pub none : f .left ≡ 0
@@ -35,11 +44,12 @@ pub record Passes (g : Given) (f : flats.Flat) (medium buffer : ℕ) : Type 0 wh
   pub running : f .residue ≤ f .announced
   pub room : 64 ≤ buffer
 
-pub record Gathers (g : Given) (f : flats.Flat) (medium packet : ℕ) : Type 0 where
-  pub free : Free g f medium
+pub record Gathers (g : Given) (f : flats.Flat) (blocks packet : ℕ) : Type 0 where
+  pub free : Free g f
   pub stage : f .stage ≡ 1
-  pub more : 1 < f .left
-  pub running : outFits (f .blocks) (f .place) (f .left) (f .value) (f .announced) (f .residue) ≡ true
+  pub some : 1 ≤ f .left
+  pub last : f .left ≡ 1 → f .residue ≡ 512
+  pub running : outFits blocks (f .place) (f .left) (f .value) (f .announced) (f .residue) ≡ true
   pub full : packet ≡ 64
 
 -- The numbers once the transfer has gone on.
@@ -53,15 +63,10 @@ movedOn f stage residue place left value =
       extra = 0;
       tag = f .tag;
       announced = f .announced;
-      blocks = f .blocks;
-      information = f .information;
       stage = stage;
       flags = 1;
       address = f .address;
-      key = f .key;
-      asc = f .asc;
-      ascq = f .ascq;
-      switch = f .switch;
+      lun = f .lun;
     }
 
 -- The numbers once the command has ended.
@@ -75,13 +80,8 @@ ended f =
       extra = 0;
       tag = 0;
       announced = 0;
-      blocks = f .blocks;
-      information = f .information;
       stage = 0;
       flags = 1;
       address = f .address;
-      key = f .key;
-      asc = f .asc;
-      ascq = f .ascq;
-      switch = f .switch;
+      lun = 0;
     }

@@ -1,5 +1,5 @@
-// Whether an event is one of the commonest: a packet in the middle of a read, one of a write that has another block to
-// come, or the status of a command that passed. The record need not be decoded for these.
+// Whether an event is one of the commonest: a whole packet of a read or of a write, or the status of a command that
+// passed. The record need not be decoded for these. What is asked of the table is in place.rt.
 ghost use mathlib.Core.Path.{_≡_};
 ghost use mathlib.Core.Bool.{true};
 ghost use Rattle.cevents.specs.Ways.{Free, ReadsOn, Passes, Gathers};
@@ -8,17 +8,13 @@ use crecord::record::Given;
 use state::fits::in_fits;
 use state::fits::number_fits;
 use state::fits::out_fits;
-use state::fits::size_fits;
 
-// Configured, no pipe halted, over its medium, its switch open or closed, and without the number that only a sense on its
-// way has.
-pub(crate) fn is_free(given: Given, flat: Flat, medium: usize) -> bool
-    ensures { λ r. ⌜ (r ≡ true → Free given flat medium) ⌝ }
+// Configured, no pipe halted, and without the number that only a sense on its way has.
+fn is_free(given: Given, flat: Flat) -> bool
+    ensures { λ r. ⌜ (r ≡ true → Free given flat) ⌝ }
 {
     let flags = flat.flags;
     let address = flat.address;
-    let switch = flat.switch;
-    let blocks = flat.blocks;
     let extra = flat.extra;
     let number = given.number;
     if flags != 1 {
@@ -30,20 +26,12 @@ pub(crate) fn is_free(given: Given, flat: Flat, medium: usize) -> bool
     if 0x7F < address {
         return false;
     }
-    if 1 < switch {
-        return false;
-    }
-    if !size_fits(blocks as usize) {
-        return false;
-    }
-    if !number_fits(number) {
-        return false;
-    }
-    medium == 512 * (blocks as usize)
+    number_fits(number)
 }
 
-pub(crate) fn reads_on(given: Given, flat: Flat, medium: usize, buffer: usize) -> bool
-    ensures { λ r. ⌜ (r ≡ true → ReadsOn given flat medium buffer) ⌝ }
+// A packet of 64 bytes is due; the last one leaves no residue.
+pub(crate) fn reads_on(given: Given, flat: Flat, blocks: u32, buffer: usize) -> bool
+    ensures { λ r. ⌜ (r ≡ true → ReadsOn given flat blocks buffer) ⌝ }
 {
     let stage = flat.stage;
     let place = flat.place;
@@ -51,14 +39,13 @@ pub(crate) fn reads_on(given: Given, flat: Flat, medium: usize, buffer: usize) -
     let value = flat.value;
     let announced = flat.announced;
     let residue = flat.residue;
-    let blocks = flat.blocks;
     if stage != 2 {
         return false;
     }
     if value != 0 {
         return false;
     }
-    if left <= 64 {
+    if left < 64 {
         return false;
     }
     if buffer < 64 {
@@ -67,11 +54,17 @@ pub(crate) fn reads_on(given: Given, flat: Flat, medium: usize, buffer: usize) -
     if !in_fits(512 * (blocks as u64), place, left, announced, residue) {
         return false;
     }
-    is_free(given, flat, medium)
+    if !is_free(given, flat) {
+        return false;
+    }
+    if left != 64 {
+        return true;
+    }
+    residue == 64
 }
 
-pub(crate) fn passes(given: Given, flat: Flat, medium: usize, buffer: usize) -> bool
-    ensures { λ r. ⌜ (r ≡ true → Passes given flat medium buffer) ⌝ }
+pub(crate) fn passes(given: Given, flat: Flat, buffer: usize) -> bool
+    ensures { λ r. ⌜ (r ≡ true → Passes given flat buffer) ⌝ }
 {
     let stage = flat.stage;
     let place = flat.place;
@@ -97,11 +90,12 @@ pub(crate) fn passes(given: Given, flat: Flat, medium: usize, buffer: usize) -> 
     if buffer < 64 {
         return false;
     }
-    is_free(given, flat, medium)
+    is_free(given, flat)
 }
 
-pub(crate) fn gathers(given: Given, flat: Flat, medium: usize, packet: usize) -> bool
-    ensures { λ r. ⌜ (r ≡ true → Gathers given flat medium packet) ⌝ }
+// A packet of 64 bytes; the last block is one that leaves no residue.
+pub(crate) fn gathers(given: Given, flat: Flat, blocks: u32, packet: usize) -> bool
+    ensures { λ r. ⌜ (r ≡ true → Gathers given flat blocks packet) ⌝ }
 {
     let stage = flat.stage;
     let place = flat.place;
@@ -109,18 +103,23 @@ pub(crate) fn gathers(given: Given, flat: Flat, medium: usize, packet: usize) ->
     let value = flat.value;
     let announced = flat.announced;
     let residue = flat.residue;
-    let blocks = flat.blocks;
+    if !is_free(given, flat) {
+        return false;
+    }
     if stage != 1 {
         return false;
     }
     if packet != 64 {
         return false;
     }
-    if left <= 1 {
+    if left < 1 {
         return false;
     }
-    if !is_free(given, flat, medium) {
+    if !out_fits(blocks, place, left, value, announced, residue) {
         return false;
     }
-    out_fits(blocks, place, left, value, announced, residue)
+    if left != 1 {
+        return true;
+    }
+    residue == 512
 }

@@ -1,19 +1,21 @@
 // The events on the record as C holds it: decoded, turned by `control`, `bulk` or `collector`, encoded. The commonest events go a shorter way.
+// The table comes by value; an event says whether it changed a unit.
 ghost use mathlib.Core.Path.{_≡_};
-ghost use mathlib.Core.List.{List, []};
-ghost use Prim.Native.Nat.{ℕ};
+ghost use mathlib.Core.Bool.{false};
+ghost use mathlib.Core.List.{List, [], _∷_};
+ghost use Prim.Native.Nat.{ℕ, _≤_};
+ghost use lib.Dec.{leb};
+ghost use Rattle.wire.specs.Choice.{_and_};
 ghost use Rattle.machine.specs.Machine.{busReset, bulkOut, bulkIn, setSwitch};
 ghost use Rattle.machine.specs.Machine as machines;
-ghost use Rattle.crecord.specs.Flat.{identityFrom, answer, rec};
-ghost use Rattle.cevents.specs.Ways.{movedOn, ended};
-ghost use Rattle.cevents.specs.Events.{left, onRecord, leftMade, onMaking};
-use crate::quick::gathers;
-use crate::quick::is_free;
-use crate::quick::passes;
-use crate::quick::reads_on;
-use bot::csw::Csw;
-use bot::csw::Status;
-use bot::csw::csw_bytes;
+ghost use Rattle.units.specs.Held.{tableOf};
+ghost use Rattle.units.specs.Change.{applied};
+ghost use Rattle.crecord.specs.Flat.{decodes, identityFrom, answer, rec};
+ghost use Rattle.cevents.specs.Events.{left, onRecord, leftMade, onMaking, kept};
+use crate::packets::quick_in;
+use crate::packets::quick_out;
+use crate::place::place_alone;
+use crate::place::place_among;
 use bulk::parts::in_parts;
 use bulk::parts::out_parts;
 use collector::making::make;
@@ -23,7 +25,6 @@ use control::parts::reset_parts;
 use crecord::decode::decodes;
 use crecord::decode::identity_from;
 use crecord::decode::state_from;
-use crecord::decode::unit_from;
 use crecord::encode::flat_of;
 use crecord::encode::given_of;
 use crecord::encode::told;
@@ -31,11 +32,23 @@ use crecord::record::Flat;
 use crecord::record::Given;
 use crecord::record::Record;
 use crecord::record::Told;
-use wire::slices::put;
-use wire::slices::put_packet;
+use machine::record::LogicalUnit;
+use scsi::sense::Sense;
+use units::change::Change;
+use units::change::apply;
+use units::change::needed;
+use units::table::Units;
 
-// What an event leaves, but for the part block, which it is lent.
+// What an event leaves, but for the part block, which it is lent. Only where a unit changed is the table to be stored.
 pub struct Turn {
+    pub told: Told,
+    pub flat: Flat,
+    pub units: Units,
+    pub changed: bool,
+}
+
+// The same of an ask, which changes no unit.
+pub struct AskTurn {
     pub told: Told,
     pub flat: Flat,
 }
@@ -43,13 +56,39 @@ pub struct Turn {
 pub struct MadeTurn {
     pub told: Told,
     pub record: Record,
+    pub units: Units,
+    pub changed: bool,
 }
 
-// Numbers that stand for no record.
-fn undecoded(flat: Flat) -> Turn
-    ensures { λ r. ⌜ (r .told ≡ answer 10 0) × (r .flat ≡ flat) ⌝ }
+// Whether the numbers stand for a record, and the table is held whole.
+fn stands(flat: Flat, units: Units) -> bool
+    ensures { λ r. ⌜ r ≡ (decodes flat and leb (units .count) 4) ⌝ }
+{
+    if !decodes(flat) {
+        return false;
+    }
+    units.count <= 4
+}
+
+// Where they do not.
+fn refused(flat: Flat, units: Units) -> Turn
+    ensures { λ r. ⌜ (r .told ≡ answer 10 0) × ((r .flat ≡ flat) × (r .changed ≡ false)) ⌝ }
 {
     Turn {
+        told: Told {
+            number: 10,
+            count: 0,
+        },
+        flat,
+        units,
+        changed: false,
+    }
+}
+
+fn refused_ask(flat: Flat) -> AskTurn
+    ensures { λ r. ⌜ (r .told ≡ answer 10 0) × (r .flat ≡ flat) ⌝ }
+{
+    AskTurn {
         told: Told {
             number: 10,
             count: 0,
@@ -58,275 +97,323 @@ fn undecoded(flat: Flat) -> Turn
     }
 }
 
-// Makes a collector.
-pub fn turn_make(given: Given, medium: &[u8]) -> MadeTurn
-    ensures { λ r. ⌜ leftMade (r .told) (r .record) ≡ onMaking (identityFrom given) (now (medium .entry)) ⌝ }
+// The units changed as an event says. A table that has the change already is not stored again.
+fn turned(told: Told, flat: Flat, change: Change, units: Units) -> Turn
+    ensures { λ r. ⌜ (r .told ≡ told) × ((r .flat ≡ flat) × (units .count ≤ 4 → kept (r .changed) (tableOf units) (r .units) ≡ applied change (tableOf units))) ⌝ }
+{
+    let change = needed(change, units);
+    match change {
+        Change::Kept => Turn {
+            told,
+            flat,
+            units,
+            changed: false,
+        },
+        _ => Turn {
+            told,
+            flat,
+            units: apply(change, units),
+            changed: true,
+        },
+    }
+}
+
+// Makes a collector. Its table is stored where it was made.
+pub fn turn_make(given: Given, units: Units, medium: &[u8]) -> MadeTurn
+    ensures { λ r. ⌜ leftMade (r .told) (r .record) (kept (r .changed) (tableOf units) (r .units)) ≡ onMaking (identityFrom given) (tableOf units) (now (medium .entry)) ⌝ }
 {
     let identity = identity_from(given);
-    let made = make(identity, medium);
+    let made = make(identity, units, medium);
     let answer = made.answer;
     let device = made.device;
-    let unit = made.unit;
+    let units = made.units;
     let told = told(answer);
     let given = given_of(device.identity);
-    let flat = flat_of(device.state, unit);
+    let flat = flat_of(device.state);
     let part = device.part;
+    let changed = told.number == 1;
     MadeTurn {
         told,
         record: Record { given, flat, part },
+        units,
+        changed,
     }
 }
 
-pub fn turn_reset(given: Given, flat: Flat, part: &mut [u8; 512]) -> Turn
-    ensures { λ r. ⌜ ((m : List ℕ) → left (r .told) (rec given (r .flat) (now (part .exit))) m [] ≡ onRecord (rec given flat (now (part .entry))) m busReset) ⌝ }
+pub fn turn_reset(given: Given, flat: Flat, units: Units, part: &mut [u8; 512]) -> Turn
+    ensures { λ r. ⌜ ((m : List ℕ) → left (r .told) (rec given (r .flat) (now (part .exit))) (kept (r .changed) (tableOf units) (r .units)) m [] ≡ onRecord (rec given flat (now (part .entry))) (tableOf units) m busReset) ⌝ }
 {
-    if !decodes(flat) {
-        return undecoded(flat);
+    if !stands(flat, units) {
+        return refused(flat, units);
     }
-    let moved = reset_parts(
-        identity_from(given),
-        state_from(flat),
-        unit_from(flat),
-        part,
-    );
+    let moved = reset_parts(identity_from(given), state_from(flat), units, part);
     let answer = moved.answer;
     let state = moved.state;
-    let unit = moved.unit;
+    let change = moved.change;
     let told = told(answer);
-    let flat = flat_of(state, unit);
-    Turn { told, flat }
+    let flat = flat_of(state);
+    turned(told, flat, change, units)
 }
 
-// The switch is set: nothing is lent for it, so the part block stays as it was.
-pub fn turn_switch(given: Given, flat: Flat, position: u8) -> Turn
-    ensures { λ r. ⌜ ((p m : List ℕ) → left (r .told) (rec given (r .flat) p) m [] ≡ onRecord (rec given flat p) m (setSwitch position)) ⌝ }
+// A switch is set: nothing is lent for it, so the part block stays as it was.
+pub fn turn_switch(given: Given, flat: Flat, units: Units, position: u8, lun: u8) -> Turn
+    ensures { λ r. ⌜ ((p m : List ℕ) → left (r .told) (rec given (r .flat) p) (kept (r .changed) (tableOf units) (r .units)) m [] ≡ onRecord (rec given flat p) (tableOf units) m (setSwitch position lun)) ⌝ }
 {
-    if !decodes(flat) {
-        return undecoded(flat);
+    if !stands(flat, units) {
+        return refused(flat, units);
     }
-    let moved = switch_parts(
-        identity_from(given),
-        state_from(flat),
-        unit_from(flat),
-        position,
-    );
+    let moved = switch_parts(identity_from(given), state_from(flat), units, position, lun);
     let answer = moved.answer;
     let state = moved.state;
-    let unit = moved.unit;
+    let change = moved.change;
     let told = told(answer);
-    let flat = flat_of(state, unit);
-    Turn { told, flat }
+    let flat = flat_of(state);
+    turned(told, flat, change, units)
 }
 
 pub fn turn_control(
     given: Given,
     flat: Flat,
+    units: Units,
     part: &mut [u8; 512],
     setup: &[u8],
     buffer: &mut [u8],
 ) -> Turn
-    ensures { λ r. ⌜ ((m : List ℕ) → left (r .told) (rec given (r .flat) (now (part .exit))) m (now (buffer .exit)) ≡ onRecord (rec given flat (now (part .entry))) m (machines.control (now (setup .entry)) (now (buffer .entry)))) ⌝ }
+    ensures { λ r. ⌜ ((m : List ℕ) → left (r .told) (rec given (r .flat) (now (part .exit))) (kept (r .changed) (tableOf units) (r .units)) m (now (buffer .exit)) ≡ onRecord (rec given flat (now (part .entry))) (tableOf units) m (machines.control (now (setup .entry)) (now (buffer .entry)))) ⌝ }
 {
-    if !decodes(flat) {
-        return undecoded(flat);
+    if !stands(flat, units) {
+        return refused(flat, units);
     }
     let moved = control_parts(
         identity_from(given),
         state_from(flat),
-        unit_from(flat),
+        units,
         part,
         setup,
         buffer,
     );
     let answer = moved.answer;
     let state = moved.state;
-    let unit = moved.unit;
+    let change = moved.change;
     let told = told(answer);
     let number = told.number;
-    // A request that is answered with data changes no record.
+    // A request that is answered with data changes no record and no unit.
     if number == 0 {
-        return Turn { told, flat };
+        return Turn {
+            told,
+            flat,
+            units,
+            changed: false,
+        };
     }
-    let flat = flat_of(state, unit);
-    Turn { told, flat }
-}
-
-// A transfer of a free device goes on.
-fn moved_on(flat: Flat, stage: u8, residue: u32, place: u32, left: u32, value: u32) -> Flat
-    ensures { λ r. ⌜ r ≡ movedOn flat stage residue place left value ⌝ }
-{
-    Flat {
-        residue,
-        place,
-        left,
-        value,
-        extra: 0,
-        tag: flat.tag,
-        announced: flat.announced,
-        blocks: flat.blocks,
-        information: flat.information,
-        stage,
-        flags: 1,
-        address: flat.address,
-        key: flat.key,
-        asc: flat.asc,
-        ascq: flat.ascq,
-        switch: flat.switch,
-    }
-}
-
-// The command of a free device has ended.
-fn ended(flat: Flat) -> Flat
-    ensures { λ r. ⌜ r ≡ ended flat ⌝ }
-{
-    Flat {
-        residue: 0,
-        place: 0,
-        left: 0,
-        value: 0,
-        extra: 0,
-        tag: 0,
-        announced: 0,
-        blocks: flat.blocks,
-        information: flat.information,
-        stage: 0,
-        flags: 1,
-        address: flat.address,
-        key: flat.key,
-        asc: flat.asc,
-        ascq: flat.ascq,
-        switch: flat.switch,
-    }
+    let flat = flat_of(state);
+    turned(told, flat, change, units)
 }
 
 // Any packet on bulk-out.
-fn any_out(given: Given, flat: Flat, part: &mut [u8; 512], medium: &mut [u8], packet: &[u8]) -> Turn
-    ensures { λ r. ⌜ left (r .told) (rec given (r .flat) (now (part .exit))) (now (medium .exit)) [] ≡ onRecord (rec given flat (now (part .entry))) (now (medium .entry)) (bulkOut (now (packet .entry))) ⌝ }
+fn any_out(
+    given: Given,
+    flat: Flat,
+    units: Units,
+    part: &mut [u8; 512],
+    medium: &mut [u8],
+    packet: &[u8],
+) -> Turn
+    ensures { λ r. ⌜ left (r .told) (rec given (r .flat) (now (part .exit))) (kept (r .changed) (tableOf units) (r .units)) (now (medium .exit)) [] ≡ onRecord (rec given flat (now (part .entry))) (tableOf units) (now (medium .entry)) (bulkOut (now (packet .entry))) ⌝ }
 {
-    if !decodes(flat) {
-        return undecoded(flat);
+    if !stands(flat, units) {
+        return refused(flat, units);
     }
     let moved = out_parts(
         identity_from(given),
         state_from(flat),
-        unit_from(flat),
+        units,
         part,
         medium,
         packet,
     );
     let answer = moved.answer;
     let state = moved.state;
-    let unit = moved.unit;
-    // The answer last: the other way round the compiler gives a data packet some instructions more.
-    let flat = flat_of(state, unit);
+    let change = moved.change;
+    let flat = flat_of(state);
     let told = told(answer);
-    Turn { told, flat }
+    turned(told, flat, change, units)
 }
 
 // Any ask on bulk-in.
-fn any_in(given: Given, flat: Flat, medium: &[u8], buffer: &mut [u8]) -> Turn
-    ensures { λ r. ⌜ ((p : List ℕ) → left (r .told) (rec given (r .flat) p) (now (medium .entry)) (now (buffer .exit)) ≡ onRecord (rec given flat p) (now (medium .entry)) (bulkIn (now (buffer .entry)))) ⌝ }
+fn any_in(given: Given, flat: Flat, units: Units, medium: &[u8], buffer: &mut [u8]) -> AskTurn
+    ensures { λ r. ⌜ ((p : List ℕ) → left (r .told) (rec given (r .flat) p) (tableOf units) (now (medium .entry)) (now (buffer .exit)) ≡ onRecord (rec given flat p) (tableOf units) (now (medium .entry)) (bulkIn (now (buffer .entry)))) ⌝ }
 {
-    if !decodes(flat) {
-        return undecoded(flat);
+    if !stands(flat, units) {
+        return refused_ask(flat);
     }
-    let moved = in_parts(
+    let served = in_parts(
         identity_from(given),
         state_from(flat),
-        unit_from(flat),
+        units,
         medium,
         buffer,
     );
-    let answer = moved.answer;
-    let state = moved.state;
-    let unit = moved.unit;
+    let answer = served.answer;
+    let state = served.state;
     let told = told(answer);
-    let flat = flat_of(state, unit);
-    Turn { told, flat }
+    let flat = flat_of(state);
+    AskTurn { told, flat }
 }
 
-// An ask outside the middle of a read; mostly it is for the status of a command that passed.
-fn later_in(given: Given, flat: Flat, medium: &[u8], buffer: &mut [u8]) -> Turn
-    ensures { λ r. ⌜ ((p : List ℕ) → left (r .told) (rec given (r .flat) p) (now (medium .entry)) (now (buffer .exit)) ≡ onRecord (rec given flat p) (now (medium .entry)) (bulkIn (now (buffer .entry)))) ⌝ }
+// The same, number by number. What the long way takes and gives lies in memory; copied so, the quick ways beside it keep
+// their numbers in registers.
+fn copied(flat: Flat) -> Flat
+    ensures { λ r. ⌜ r ≡ flat ⌝ }
 {
-    // The long way has two calls, each with a result of its own, so that the compiler does not inline it: its numbers take
-    // no registers of the quick ways.
-    if !is_free(given, flat, medium.len()) {
-        let turn = any_in(given, flat, medium, buffer);
-        return turn;
-    }
-    if !passes(given, flat, medium.len(), buffer.len()) {
-        let turn = any_in(given, flat, medium, buffer);
-        return turn;
-    }
-    let csw = Csw {
-        tag: flat.tag,
+    Flat {
         residue: flat.residue,
-        status: Status::Passed,
-    };
-    put(buffer, 0, &csw_bytes(csw));
-    Turn {
-        told: Told {
-            number: 0,
-            count: 13,
-        },
-        flat: ended(flat),
+        place: flat.place,
+        left: flat.left,
+        value: flat.value,
+        extra: flat.extra,
+        tag: flat.tag,
+        announced: flat.announced,
+        stage: flat.stage,
+        flags: flat.flags,
+        address: flat.address,
+        lun: flat.lun,
     }
 }
 
-// A write goes on.
-fn acked(flat: Flat, residue: u32, place: u32, left: u32, value: u32) -> Turn
-    ensures { λ r. ⌜ (r .told ≡ answer 1 0) × (r .flat ≡ movedOn flat 1 residue place left value) ⌝ }
+fn copied_turn(turn: Turn) -> Turn
+    ensures { λ r. ⌜ r ≡ turn ⌝ }
 {
+    let told = turn.told;
+    let flat = turn.flat;
+    let units = turn.units;
+    let flat = copied(flat);
     Turn {
-        told: Told {
-            number: 1,
-            count: 0,
-        },
-        flat: moved_on(flat, 1, residue, place, left, value),
+        told,
+        flat,
+        units,
+        changed: turn.changed,
     }
+}
+
+fn copied_ask(turn: AskTurn) -> AskTurn
+    ensures { λ r. ⌜ r ≡ turn ⌝ }
+{
+    let told = turn.told;
+    let flat = turn.flat;
+    let flat = copied(flat);
+    AskTurn { told, flat }
 }
 
 // A packet on bulk-out: a wrapper, or data that is stored block by block.
 pub fn turn_out(
     given: Given,
     flat: Flat,
+    units: Units,
     part: &mut [u8; 512],
     medium: &mut [u8],
     packet: &[u8],
 ) -> Turn
-    ensures { λ r. ⌜ left (r .told) (rec given (r .flat) (now (part .exit))) (now (medium .exit)) [] ≡ onRecord (rec given flat (now (part .entry))) (now (medium .entry)) (bulkOut (now (packet .entry))) ⌝ }
+    ensures { λ r. ⌜ left (r .told) (rec given (r .flat) (now (part .exit))) (kept (r .changed) (tableOf units) (r .units)) (now (medium .exit)) [] ≡ onRecord (rec given flat (now (part .entry))) (tableOf units) (now (medium .entry)) (bulkOut (now (packet .entry))) ⌝ }
 {
-    if !gathers(given, flat, medium.len(), packet.len()) {
-        return any_out(given, flat, part, medium, packet);
+    let place = place_among(units, flat.lun, medium.len());
+    let quick = quick_out(given, flat, place, part, medium, packet);
+    let done = quick.done;
+    if done {
+        let told = quick.told;
+        let next = quick.flat;
+        return Turn {
+            told,
+            flat: next,
+            units,
+            changed: false,
+        };
     }
-    let held = flat.value;
-    put_packet(part, held as usize, packet);
-    if held + 64 < 512 {
-        return acked(flat, flat.residue, flat.place, flat.left, held + 64);
-    }
-    let block = flat.place;
-    put(medium, 512 * (block as usize), part);
-    *part = [0; 512];
-    acked(flat, flat.residue - 512, block + 1, flat.left - 1, 0)
+    copied_turn(any_out(given, flat, units, part, medium, packet))
 }
 
 // An ask for a packet on bulk-in: data of the medium or of a reply, or the status wrapper.
-pub fn turn_in(given: Given, flat: Flat, medium: &[u8], buffer: &mut [u8]) -> Turn
-    ensures { λ r. ⌜ ((p : List ℕ) → left (r .told) (rec given (r .flat) p) (now (medium .entry)) (now (buffer .exit)) ≡ onRecord (rec given flat p) (now (medium .entry)) (bulkIn (now (buffer .entry)))) ⌝ }
+pub fn turn_in(given: Given, flat: Flat, units: Units, medium: &[u8], buffer: &mut [u8]) -> AskTurn
+    ensures { λ r. ⌜ ((p : List ℕ) → left (r .told) (rec given (r .flat) p) (tableOf units) (now (medium .entry)) (now (buffer .exit)) ≡ onRecord (rec given flat p) (tableOf units) (now (medium .entry)) (bulkIn (now (buffer .entry)))) ⌝ }
 {
-    if !reads_on(given, flat, medium.len(), buffer.len()) {
-        return later_in(given, flat, medium, buffer);
+    let place = place_among(units, flat.lun, medium.len());
+    let quick = quick_in(given, flat, place, medium, buffer);
+    let done = quick.done;
+    if done {
+        let told = quick.told;
+        let next = quick.flat;
+        return AskTurn { told, flat: next };
     }
-    let place = flat.place;
-    let start = place as usize;
-    let end = start + 64;
-    put_packet(buffer, 0, &medium[start..end]);
-    Turn {
-        told: Told {
-            number: 0,
-            count: 64,
+    copied_ask(any_in(given, copied(flat), units, medium, buffer))
+}
+
+// A table of one unit.
+fn alone(unit: LogicalUnit) -> Units
+    ensures { λ r. ⌜ tableOf r ≡ (unit ∷ []) ⌝ }
+{
+    let none = LogicalUnit {
+        first: 0,
+        blocks: 0,
+        sense: Sense {
+            key: 0,
+            asc: 0,
+            ascq: 0,
+            information: 0,
         },
-        flat: moved_on(flat, 2, flat.residue - 64, place + 64, flat.left - 64, 0),
+        switch: 0,
+    };
+    Units {
+        count: 1,
+        unit0: unit,
+        unit1: none,
+        unit2: none,
+        unit3: none,
     }
+}
+
+// The same over a table of one unit, which the quick ways need not hold by value.
+pub fn alone_out(
+    given: Given,
+    flat: Flat,
+    unit: LogicalUnit,
+    part: &mut [u8; 512],
+    medium: &mut [u8],
+    packet: &[u8],
+) -> Turn
+    ensures { λ r. ⌜ left (r .told) (rec given (r .flat) (now (part .exit))) (kept (r .changed) (unit ∷ []) (r .units)) (now (medium .exit)) [] ≡ onRecord (rec given flat (now (part .entry))) (unit ∷ []) (now (medium .entry)) (bulkOut (now (packet .entry))) ⌝ }
+{
+    let place = place_alone(unit, flat.lun, medium.len());
+    let quick = quick_out(given, flat, place, part, medium, packet);
+    let done = quick.done;
+    if done {
+        let told = quick.told;
+        let next = quick.flat;
+        return Turn {
+            told,
+            flat: next,
+            units: alone(unit),
+            changed: false,
+        };
+    }
+    copied_turn(any_out(given, flat, alone(unit), part, medium, packet))
+}
+
+pub fn alone_in(
+    given: Given,
+    flat: Flat,
+    unit: LogicalUnit,
+    medium: &[u8],
+    buffer: &mut [u8],
+) -> AskTurn
+    ensures { λ r. ⌜ ((p : List ℕ) → left (r .told) (rec given (r .flat) p) (unit ∷ []) (now (medium .entry)) (now (buffer .exit)) ≡ onRecord (rec given flat p) (unit ∷ []) (now (medium .entry)) (bulkIn (now (buffer .entry)))) ⌝ }
+{
+    let place = place_alone(unit, flat.lun, medium.len());
+    let quick = quick_in(given, flat, place, medium, buffer);
+    let done = quick.done;
+    if done {
+        let told = quick.told;
+        let next = quick.flat;
+        return AskTurn { told, flat: next };
+    }
+    copied_ask(any_in(given, copied(flat), alone(unit), medium, buffer))
 }

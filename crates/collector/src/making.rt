@@ -1,61 +1,52 @@
-// Making a collector over a lent medium: one equation with the specification machine, for every input.
+// Making a collector over a lent table and medium: one equation with the specification machine, for every input.
 ghost use mathlib.Core.Path.{_≡_};
-ghost use mathlib.Core.List.{[], _∷_};
-ghost use Rattle.machine.specs.Making.{mediumServed, oneUnit, made, toldMade};
+ghost use Rattle.machine.specs.Making.{made, notMade, toldMade};
 ghost use Rattle.machine.specs.Making as making;
-ghost use Rattle.machine.specs.Record.{fresh, noDevice};
+ghost use Rattle.machine.specs.Record.{fresh};
+ghost use Rattle.units.specs.Held.{tableOf};
 use machine::answer::Answer;
 use machine::answer::Refusal;
 use machine::record::Device;
 use machine::record::Link;
-use machine::record::LogicalUnit;
 use machine::record::State;
-use scsi::sense::Sense;
 use state::fits::number_fits;
-use state::fits::size_fits;
 use state::states::no_task;
+use units::table::Units;
+use units::table::as_made;
+use units::table::laid_out;
+use units::table::medium_fits;
 use usb::descriptor::Identity;
 
 pub struct Made {
     pub answer: Answer,
     pub device: Device,
-    pub unit: LogicalUnit,
+    pub units: Units,
 }
 
-// A collector as made, with one unit of so many blocks.
-fn fresh(answer: Answer, identity: Identity, blocks: u32) -> Made
-    ensures { λ r. ⌜ made (r .answer) (r .device) (r .unit ∷ []) ≡ made answer (fresh identity) (oneUnit blocks) ⌝ }
+// A collector as made.
+fn fresh(identity: Identity) -> Device
+    ensures { λ r. ⌜ r ≡ fresh identity ⌝ }
 {
-    let sense = Sense::new();
     let task = no_task();
-    Made {
-        answer,
-        device: Device {
-            identity,
-            state: State {
-                address: 0,
-                configured: false,
-                link: Link {
-                    haltin: false,
-                    haltout: false,
-                    locked: false,
-                    task,
-                },
+    Device {
+        identity,
+        state: State {
+            address: 0,
+            configured: false,
+            link: Link {
+                haltin: false,
+                haltout: false,
+                locked: false,
+                task,
             },
-            part: [0; 512],
         },
-        unit: LogicalUnit {
-            first: 0,
-            blocks,
-            sense,
-            switch: 0,
-        },
+        part: [0; 512],
     }
 }
 
-// A refused making gives a record of zeros and a unit of no blocks, on which every event is refused.
-fn refused(why: Refusal) -> Made
-    ensures { λ r. ⌜ made (r .answer) (r .device) (r .unit ∷ []) ≡ made (Answer.Refused why) noDevice (oneUnit 0) ⌝ }
+// A refused making gives a record of zeros, and keeps the table.
+fn refused(why: Refusal, units: Units) -> Made
+    ensures { λ r. ⌜ made (r .answer) (r .device) (tableOf (r .units)) ≡ notMade why (tableOf units) ⌝ }
 {
     let identity = Identity {
         number: 0,
@@ -63,29 +54,30 @@ fn refused(why: Refusal) -> Made
         product: 0,
         release: 0,
     };
-    fresh(Answer::Refused { why }, identity, 0)
-}
-
-// Whether a medium is a whole number of blocks, and not too few or too many.
-fn is_served(medium: &[u8]) -> bool
-    ensures { λ r. ⌜ r ≡ mediumServed (now (medium .entry)) ⌝ }
-{
-    if medium.len() % 512 != 0 {
-        return false;
+    Made {
+        answer: Answer::Refused { why },
+        device: fresh(identity),
+        units,
     }
-    size_fits(medium.len() / 512)
 }
 
-// The medium is checked first, then the number.
-pub fn make(identity: Identity, medium: &[u8]) -> Made
-    ensures { λ r. ⌜ toldMade (made (r .answer) (r .device) (r .unit ∷ [])) ≡ toldMade (making.make identity (now (medium .entry))) ⌝ }
+// The table is checked first, then the medium, then the number. Once made, every sense is zero and every switch open.
+pub fn make(identity: Identity, units: Units, medium: &[u8]) -> Made
+    ensures { λ r. ⌜ toldMade (made (r .answer) (r .device) (tableOf (r .units))) ≡ toldMade (making.make identity (tableOf units) (now (medium .entry))) ⌝ }
 {
     let number = identity.number;
-    if !is_served(medium) {
-        return refused(Refusal::Medium);
+    if !laid_out(units) {
+        return refused(Refusal::Record, units);
+    }
+    if !medium_fits(units, medium.len()) {
+        return refused(Refusal::Medium, units);
     }
     if !number_fits(number) {
-        return refused(Refusal::Number);
+        return refused(Refusal::Number, units);
     }
-    fresh(Answer::Ack, identity, (medium.len() / 512) as u32)
+    Made {
+        answer: Answer::Ack,
+        device: fresh(identity),
+        units: as_made(units),
+    }
 }

@@ -1,15 +1,18 @@
 // Requests that send data: status, configuration, largest unit number, descriptors (USB 2.0, 9.4; BOT 3.2).
 ghost use mathlib.Core.Path.{_≡_};
-ghost use mathlib.Core.List.{List, [], _∷_};
-ghost use Prim.Native.Nat.{ℕ};
+ghost use mathlib.Core.List.{List};
+ghost use Prim.Native.Nat.{ℕ, _-_};
+ghost use lib.ListN.{length};
 ghost use Rattle.machine.specs.Record.{device};
-ghost use Rattle.machine.specs.World.{World, world, out, sends};
+ghost use Rattle.machine.specs.World.{World, world, inState, out, sends};
+ghost use Rattle.machine.specs.Units.{Table};
+ghost use Rattle.units.specs.Change.{applied};
 ghost use Rattle.machine.specs.Control.{flag, needsConfigured, endpointStatus, perform};
-ghost use Rattle.state.specs.One.{ofOne};
+ghost use Rattle.state.specs.Moving.{moving};
 use machine::answer::Answer;
-use machine::record::LogicalUnit;
 use machine::record::State;
 use state::gate::Moved;
+use units::change::Change;
 use usb::descriptor::Descriptor;
 use usb::descriptor::Identity;
 use usb::descriptor::descriptor_bytes;
@@ -18,14 +21,14 @@ use usb::request::Request;
 use wire::slices::put;
 
 // The bytes into the buffer; nothing else changes.
-fn send(bytes: &[u8], state: State, unit: LogicalUnit, buffer: &mut [u8]) -> Moved
-    ensures { λ r. ⌜ ((w : World) → out (r .answer) (ofOne w (r .state) (r .unit)) (now (buffer .exit)) ≡ sends (now (bytes .entry)) (ofOne w state unit) (now (buffer .entry))) ⌝ }
+fn send(bytes: &[u8], state: State, buffer: &mut [u8]) -> Moved
+    ensures { λ r. ⌜ ((w : World) → out (r .answer) (moving w (r .state) (r .change)) (now (buffer .exit)) ≡ sends (now (bytes .entry)) (inState w state) (now (buffer .entry))) ⌝ }
 {
     put(buffer, 0, bytes);
     Moved {
         answer: Answer::Data { count: bytes.len() },
         state,
-        unit,
+        change: Change::Kept,
     }
 }
 
@@ -36,66 +39,61 @@ fn flag(on: bool) -> [u8; 2]
     if on { [0x01, 0x00] } else { [0x00, 0x00] }
 }
 
-pub(crate) fn send_flag(on: bool, state: State, unit: LogicalUnit, buffer: &mut [u8]) -> Moved
-    ensures { λ r. ⌜ ((w : World) → out (r .answer) (ofOne w (r .state) (r .unit)) (now (buffer .exit)) ≡ sends (flag on) (ofOne w state unit) (now (buffer .entry))) ⌝ }
+pub(crate) fn send_flag(on: bool, state: State, buffer: &mut [u8]) -> Moved
+    ensures { λ r. ⌜ ((w : World) → out (r .answer) (moving w (r .state) (r .change)) (now (buffer .exit)) ≡ sends (flag on) (inState w state) (now (buffer .entry))) ⌝ }
 {
-    send(&flag(on), state, unit, buffer)
+    send(&flag(on), state, buffer)
 }
 
 // The same where the device must be configured: else a stall.
-pub(crate) fn send_configured(on: bool, state: State, unit: LogicalUnit, buffer: &mut [u8]) -> Moved
-    ensures { λ r. ⌜ ((w : World) → out (r .answer) (ofOne w (r .state) (r .unit)) (now (buffer .exit)) ≡ needsConfigured (ofOne w state unit) (now (buffer .entry)) (sends (flag on) (ofOne w state unit) (now (buffer .entry)))) ⌝ }
+pub(crate) fn send_configured(on: bool, state: State, buffer: &mut [u8]) -> Moved
+    ensures { λ r. ⌜ ((w : World) → out (r .answer) (moving w (r .state) (r .change)) (now (buffer .exit)) ≡ needsConfigured (inState w state) (now (buffer .entry)) (sends (flag on) (inState w state) (now (buffer .entry)))) ⌝ }
 {
     let configured = state.configured;
     if !configured {
         return Moved {
             answer: Answer::Stall,
             state,
-            unit,
+            change: Change::Kept,
         };
     }
-    send_flag(on, state, unit, buffer)
+    send_flag(on, state, buffer)
 }
 
-pub(crate) fn endpoint_status(
-    endpoint: Endpoint,
-    state: State,
-    unit: LogicalUnit,
-    buffer: &mut [u8],
-) -> Moved
-    ensures { λ r. ⌜ ((w : World) → out (r .answer) (ofOne w (r .state) (r .unit)) (now (buffer .exit)) ≡ endpointStatus endpoint (ofOne w state unit) (now (buffer .entry))) ⌝ }
+pub(crate) fn endpoint_status(endpoint: Endpoint, state: State, buffer: &mut [u8]) -> Moved
+    ensures { λ r. ⌜ ((w : World) → out (r .answer) (moving w (r .state) (r .change)) (now (buffer .exit)) ≡ endpointStatus endpoint (inState w state) (now (buffer .entry))) ⌝ }
 {
     let link = state.link;
     match endpoint {
-        Endpoint::Control => send_flag(false, state, unit, buffer),
-        Endpoint::BulkIn => send_configured(link.haltin, state, unit, buffer),
-        Endpoint::BulkOut => send_configured(link.haltout, state, unit, buffer),
+        Endpoint::Control => send_flag(false, state, buffer),
+        Endpoint::BulkIn => send_configured(link.haltin, state, buffer),
+        Endpoint::BulkOut => send_configured(link.haltout, state, buffer),
     }
 }
 
-pub(crate) fn get_configuration(state: State, unit: LogicalUnit, buffer: &mut [u8]) -> Moved
-    ensures { λ r. ⌜ ((w : World) → out (r .answer) (ofOne w (r .state) (r .unit)) (now (buffer .exit)) ≡ perform Request.GetConfiguration (ofOne w state unit) (now (buffer .entry))) ⌝ }
+pub(crate) fn get_configuration(state: State, buffer: &mut [u8]) -> Moved
+    ensures { λ r. ⌜ ((w : World) → out (r .answer) (moving w (r .state) (r .change)) (now (buffer .exit)) ≡ perform Request.GetConfiguration (inState w state) (now (buffer .entry))) ⌝ }
 {
     let configured = state.configured;
     if configured {
-        return send(&[0x01], state, unit, buffer);
+        return send(&[0x01], state, buffer);
     }
-    send(&[0x00], state, unit, buffer)
+    send(&[0x00], state, buffer)
 }
 
-// The device has one unit.
-pub(crate) fn get_max_lun(state: State, unit: LogicalUnit, buffer: &mut [u8]) -> Moved
-    ensures { λ r. ⌜ ((w : World) → out (r .answer) (ofOne w (r .state) (r .unit)) (now (buffer .exit)) ≡ perform Request.GetMaxLun (ofOne w state unit) (now (buffer .entry))) ⌝ }
+// The highest unit's number.
+pub(crate) fn get_max_lun(highest: u8, state: State, buffer: &mut [u8]) -> Moved
+    ensures { λ r. ⌜ ((w : World) → length (w .units) - 1 ≡ highest → out (r .answer) (moving w (r .state) (r .change)) (now (buffer .exit)) ≡ perform Request.GetMaxLun (inState w state) (now (buffer .entry))) ⌝ }
 {
     let configured = state.configured;
     if !configured {
         return Moved {
             answer: Answer::Stall,
             state,
-            unit,
+            change: Change::Kept,
         };
     }
-    send(&[0x00], state, unit, buffer)
+    send(&[highest], state, buffer)
 }
 
 pub(crate) fn get_descriptor(
@@ -103,17 +101,16 @@ pub(crate) fn get_descriptor(
     wlength: u16,
     identity: Identity,
     state: State,
-    unit: LogicalUnit,
     buffer: &mut [u8],
 ) -> Moved
-    ensures { λ r. ⌜ ((p m : List ℕ) → out (r .answer) (world (device identity (r .state) p) (r .unit ∷ []) m) (now (buffer .exit)) ≡ perform (Request.GetDescriptor which wlength) (world (device identity state p) (unit ∷ []) m) (now (buffer .entry))) ⌝ }
+    ensures { λ r. ⌜ ((p m : List ℕ) (us : Table) → out (r .answer) (world (device identity (r .state) p) (applied (r .change) us) m) (now (buffer .exit)) ≡ perform (Request.GetDescriptor which wlength) (world (device identity state p) us m) (now (buffer .entry))) ⌝ }
 {
     let packet = descriptor_bytes(which, identity);
     let bytes = packet.bytes;
     let size = packet.len;
     let wanted = wlength as usize;
     if wanted < size {
-        return send(&bytes[..wanted], state, unit, buffer);
+        return send(&bytes[..wanted], state, buffer);
     }
-    send(&bytes[..size], state, unit, buffer)
+    send(&bytes[..size], state, buffer)
 }

@@ -4,32 +4,32 @@ ghost use mathlib.Core.Bool.{true};
 ghost use mathlib.Core.List.{List};
 ghost use Prim.Native.Nat.{ℕ};
 ghost use Rattle.wire.specs.Choice.{if_then_else_};
-ghost use Rattle.machine.specs.World.{World, out};
+ghost use Rattle.machine.specs.World.{World, inState, out};
 ghost use Rattle.machine.specs.Control.{needsConfigured, clearHalt, setHalt};
-ghost use Rattle.state.specs.One.{ofOne};
+ghost use Rattle.state.specs.Moving.{moving};
 use machine::answer::Answer;
-use machine::record::LogicalUnit;
 use machine::record::State;
 use state::gate::Moved;
 use state::states::with_halts;
+use units::change::Change;
 use usb::request::Endpoint;
 
 // A state that only a configured device takes.
-fn acked(next: State, state: State, unit: LogicalUnit) -> Moved
-    ensures { λ r. ⌜ ((w : World) (b : List ℕ) → out (r .answer) (ofOne w (r .state) (r .unit)) b ≡ needsConfigured (ofOne w state unit) b (out Answer.Ack (ofOne w next unit) b)) ⌝ }
+fn acked(next: State, state: State) -> Moved
+    ensures { λ r. ⌜ ((w : World) (b : List ℕ) → out (r .answer) (moving w (r .state) (r .change)) b ≡ needsConfigured (inState w state) b (out Answer.Ack (inState w next) b)) ⌝ }
 {
     let configured = state.configured;
     if !configured {
         return Moved {
             answer: Answer::Stall,
             state,
-            unit,
+            change: Change::Kept,
         };
     }
     Moved {
         answer: Answer::Ack,
         state: next,
-        unit,
+        change: Change::Kept,
     }
 }
 
@@ -41,8 +41,8 @@ fn halt(on: bool, locked: bool) -> bool
 }
 
 // Clear Feature is `on = false`. The control endpoint never halts: clearing has nothing to do, setting is refused.
-pub(crate) fn set_feature(on: bool, endpoint: Endpoint, state: State, unit: LogicalUnit) -> Moved
-    ensures { λ r. ⌜ ((w : World) (b : List ℕ) → out (r .answer) (ofOne w (r .state) (r .unit)) b ≡ if on then setHalt endpoint (ofOne w state unit) b else clearHalt endpoint (ofOne w state unit) b) ⌝ }
+pub(crate) fn set_feature(on: bool, endpoint: Endpoint, state: State) -> Moved
+    ensures { λ r. ⌜ ((w : World) (b : List ℕ) → out (r .answer) (moving w (r .state) (r .change)) b ≡ if on then setHalt endpoint (inState w state) b else clearHalt endpoint (inState w state) b) ⌝ }
 {
     let link = state.link;
     let locked = link.locked;
@@ -53,17 +53,17 @@ pub(crate) fn set_feature(on: bool, endpoint: Endpoint, state: State, unit: Logi
                 Moved {
                     answer: Answer::Stall,
                     state,
-                    unit,
+                    change: Change::Kept,
                 }
             } else {
                 Moved {
                     answer: Answer::Ack,
                     state,
-                    unit,
+                    change: Change::Kept,
                 }
             }
         }
-        Endpoint::BulkIn => acked(with_halts(state, next, link.haltout, locked), state, unit),
-        Endpoint::BulkOut => acked(with_halts(state, link.haltin, next, locked), state, unit),
+        Endpoint::BulkIn => acked(with_halts(state, next, link.haltout, locked), state),
+        Endpoint::BulkOut => acked(with_halts(state, link.haltin, next, locked), state),
     }
 }

@@ -19,12 +19,10 @@ use Rattle.scsi.proofs.Pages.{code-found, CodeIs, found-code}
 use Rattle.bot.specs.declared.csw.Status.the-variants.{Passed, Failed, PhaseError}
 use Rattle.machine.specs.declared.record.Stage.{Stage}
 use Rattle.machine.specs.declared.record.Stage.the-variants.{Ready, DataOut, DataIn, ReplyIn, StatusDue}
-use Rattle.machine.specs.declared.record.LogicalUnit.{LogicalUnit}
 use Rattle.machine.specs.declared.record.State.{State}
-use Rattle.machine.specs.Units.{unit}
 use Rattle.machine.specs.Record.{task, link, state}
 use Rattle.crecord.specs.declared.record.Flat as flats
-use Rattle.crecord.specs.Flat.{numbers, numbersIn, senseNumber, senseFrom, isFound, pageStage, Form, none, two, three, noNumbers, noValue, isPosition, isPage, forms, noForm, formOf, flag, decodes, stateFrom, unitFrom}
+use Rattle.crecord.specs.Flat.{numbers, numbersIn, senseNumber, senseFrom, isFound, pageStage, Form, none, two, three, noNumbers, noValue, isPosition, isPage, forms, noForm, formOf, flag, decodes, stateFrom}
 use Rattle.crecord.specs.Flat.{numbersOf, worth, flagsOf, flatWith, flatOf}
 use Rattle.crecord.specs.declared.encode.Numbers.{Numbers}
 use Rattle.crecord.specs.Claims.{IsState, RoundTrip}
@@ -180,23 +178,19 @@ stage-again n =
 
 -- ---- the whole state
 
-written-decodes : (s : State) (u : LogicalUnit) → IsState s → decodes (flatOf s u) ≡ true
+written-decodes : (s : State) → IsState s → decodes (flatOf s) ≡ true
 unfolding decodes flatOf flatWith
-written-decodes s u ok = and-true _ _ (le-leb _ _ (flags-back s .small)) (stage-back (s .link .task .stage) (ok .sense) .0)
+written-decodes s ok = and-true _ _ (le-leb _ _ (flags-back s .small)) (stage-back (s .link .task .stage) (ok .sense) .0)
 
-written-is-read : (s : State) (u : LogicalUnit) → IsState s → stateFrom (flatOf s u) ≡ s
+written-is-read : (s : State) → IsState s → stateFrom (flatOf s) ≡ s
 unfolding stateFrom flatOf flatWith
-written-is-read s u ok =
+written-is-read s ok =
     let f = flags-back s in
     let t = s .link .task in
     let g = stage-back (t .stage) (ok .sense) .1 in
-    λ i. state (s .address) (f .configured i) (link (f .haltin i) (f .haltout i) (f .locked i) (task (g i) (sym (ok .lun) i) (t .tag) (t .announced) (t .residue)))
+    λ i. state (s .address) (f .configured i) (link (f .haltin i) (f .haltout i) (f .locked i) (task (g i) (t .lun) (t .tag) (t .announced) (t .residue)))
 
-written-unit-is-read : (s : State) (u : LogicalUnit) → u .first ≡ 0 → unitFrom (flatOf s u) ≡ u
-unfolding flatOf flatWith
-written-unit-is-read s u e = λ i. unit (sym e i) (u .blocks) (u .sense) (u .switch)
-
-read-is-written : (f : flats.Flat) → decodes f ≡ true → flatOf (stateFrom f) (unitFrom f) ≡ f
+read-is-written : (f : flats.Flat) → decodes f ≡ true → flatOf (stateFrom f) ≡ f
 unfolding decodes stateFrom flatOf flatWith flagsOf
 read-is-written f h =
     let d = both _ _ h in
@@ -210,16 +204,11 @@ read-is-written f h =
       extra = n i .extra;
       tag = f .tag;
       announced = f .announced;
-      blocks = f .blocks;
-      information = f .information;
       stage = n i .stage;
       flags = b i;
       address = f .address;
-      key = f .key;
-      asc = f .asc;
-      ascq = f .ascq;
-      switch = f .switch;
+      lun = f .lun;
     }
 
 pub round-trip : RoundTrip
-round-trip = record { written-decodes = written-decodes; written-is-read = written-is-read; written-unit-is-read = written-unit-is-read; read-is-written = read-is-written }
+round-trip = record { written-decodes = written-decodes; written-is-read = written-is-read; read-is-written = read-is-written }

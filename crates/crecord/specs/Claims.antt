@@ -6,18 +6,15 @@ use Rattle.scsi.specs.Sense.{IsSense}
 use Rattle.scsi.specs.declared.sense.Sense.{Sense}
 use Rattle.scsi.specs.declared.reply.Reply.the-variants as reply
 use Rattle.machine.specs.declared.record.Stage.the-variants.{ReplyIn}
-use Rattle.machine.specs.declared.record.LogicalUnit.{LogicalUnit}
 use Rattle.machine.specs.declared.record.State.{State}
 use Rattle.crecord.specs.declared.record.Flat as flats
-use Rattle.crecord.specs.Flat.{decodes, stateFrom, unitFrom, flatOf}
+use Rattle.crecord.specs.Flat.{decodes, stateFrom, flatOf}
 
--- The command in hand is of unit 0, and a reply's sense is of bytes. Every state that a collector of one unit reaches is such a one (machine/proofs/Parts.antt, machine/proofs/Senses.antt).
+-- A reply's sense is of bytes. Every state that a collector reaches is such a one (machine/proofs/Senses.antt).
 pub record IsState (s : State) : Type 0 where
-  pub lun : s .link .task .lun ≡ 0
   pub sense : (n : Sense) (place left : ℕ) → s .link .task .stage ≡ ReplyIn (reply.Sense n) place left → IsSense n
 
 pub record RoundTrip : Type 0 where
-  pub written-decodes : (s : State) (u : LogicalUnit) → IsState s → decodes (flatOf s u) ≡ true
-  pub written-is-read : (s : State) (u : LogicalUnit) → IsState s → stateFrom (flatOf s u) ≡ s
-  pub written-unit-is-read : (s : State) (u : LogicalUnit) → u .first ≡ 0 → unitFrom (flatOf s u) ≡ u
-  pub read-is-written : (f : flats.Flat) → decodes f ≡ true → flatOf (stateFrom f) (unitFrom f) ≡ f
+  pub written-decodes : (s : State) → IsState s → decodes (flatOf s) ≡ true
+  pub written-is-read : (s : State) → IsState s → stateFrom (flatOf s) ≡ s
+  pub read-is-written : (f : flats.Flat) → decodes f ≡ true → flatOf (stateFrom f) ≡ f

@@ -15,10 +15,9 @@ use Rattle.bot.specs.declared.csw.Status.the-variants.{Passed, Failed, PhaseErr
 use Rattle.usb.specs.declared.descriptor.Identity.{Identity}
 use Rattle.machine.specs.declared.record.Stage.{Stage}
 use Rattle.machine.specs.declared.record.Stage.the-variants.{Ready, DataOut, DataIn, ReplyIn, StatusDue}
-use Rattle.machine.specs.declared.record.LogicalUnit.{LogicalUnit}
 use Rattle.machine.specs.declared.record.State.{State}
 use Rattle.machine.specs.declared.record.Device.{Device}
-use Rattle.machine.specs.Units.{unit, unitAt}
+use Rattle.machine.specs.Units.{Table}
 use Rattle.machine.specs.Record.{task, link, state, device}
 use Rattle.machine.specs.World.{World, world}
 use Rattle.crecord.specs.declared.record.Given.{Given}
@@ -112,16 +111,12 @@ flag n flags = eqb (bits n n flags) 1
 unfoldable pub decodes : flats.Flat → Bool
 decodes f = leb (f .flags) 15 and formOf (f .stage) .has (numbersIn f)
 
--- There is one unit, and its number is 0.
+-- Nothing is asked of the unit's number here: whether the table has it, the machine asks.
 unfoldable pub stateFrom : flats.Flat → State
 stateFrom f =
     state (f .address) (flag 0 (f .flags))
     (link (flag 1 (f .flags)) (flag 2 (f .flags)) (flag 3 (f .flags))
-    (task (formOf (f .stage) .stage (numbersIn f)) 0 (f .tag) (f .announced) (f .residue)))
-
--- The unit has the whole medium. "The record gains its position" (document 02, A4): the switch's.
-abbrev pub unitFrom : flats.Flat → LogicalUnit
-unitFrom f = unit 0 (f .blocks) (record { key = f .key; asc = f .asc; ascq = f .ascq; information = f .information }) (f .switch)
+    (task (formOf (f .stage) .stage (numbersIn f)) (f .lun) (f .tag) (f .announced) (f .residue)))
 
 abbrev pub identityFrom : Given → Identity
 identityFrom g = record { number = g .number; vendor = g .vendor; product = g .product; release = g .release }
@@ -147,8 +142,8 @@ numbersOf (StatusDue PhaseError) = numbers 9 0 0 0 0
 unfoldable pub flagsOf : State → ℕ
 flagsOf s = worth (s .configured) 1 + worth (s .link .haltin) 2 + worth (s .link .haltout) 4 + worth (s .link .locked) 8
 
-unfoldable pub flatWith : State → LogicalUnit → Numbers → flats.Flat
-flatWith s u n =
+unfoldable pub flatWith : State → Numbers → flats.Flat
+flatWith s n =
     record {
       residue = s .link .task .residue;
       place = n .place;
@@ -157,19 +152,14 @@ flatWith s u n =
       extra = n .extra;
       tag = s .link .task .tag;
       announced = s .link .task .announced;
-      blocks = u .blocks;
-      information = u .sense .information;
       stage = n .stage;
       flags = flagsOf s;
       address = s .address;
-      key = u .sense .key;
-      asc = u .sense .asc;
-      ascq = u .sense .ascq;
-      switch = u .switch;
+      lun = s .link .task .lun;
     }
 
-unfoldable pub flatOf : State → LogicalUnit → flats.Flat
-flatOf s u = flatWith s u (numbersOf (s .link .task .stage))
+unfoldable pub flatOf : State → flats.Flat
+flatOf s = flatWith s (numbersOf (s .link .task .stage))
 
 abbrev pub givenOf : Identity → Given
 givenOf i = record { number = i .number; vendor = i .vendor; product = i .product; release = i .release }
@@ -182,12 +172,12 @@ rec g f p = record { given = g; flat = f; part = p }
 abbrev pub deviceFrom : Record → Device
 deviceFrom r = device (identityFrom (r .given)) (stateFrom (r .flat)) (r .part)
 
--- The medium is lent beside the record.
-abbrev pub worldFrom : Record → List ℕ → World
-worldFrom r m = world (deviceFrom r) (unitFrom (r .flat) ∷ []) m
+-- The table and the medium are lent beside the record.
+abbrev pub worldFrom : Record → Table → List ℕ → World
+worldFrom r us m = world (deviceFrom r) us m
 
 abbrev pub recordOf : World → Record
-recordOf w = rec (givenOf (w .dev .identity)) (flatOf (w .dev .state) (unitAt (w .units) 0)) (w .dev .part)
+recordOf w = rec (givenOf (w .dev .identity)) (flatOf (w .dev .state)) (w .dev .part)
 
 -- ---- an answer: document 01's number, and the count of bytes that data has
 

@@ -1,12 +1,11 @@
 // From the numbers that C holds to the device's state.
 ghost use mathlib.Core.Path.{_≡_};
 ghost use Rattle.scsi.specs.Page.{pageOf};
-ghost use Rattle.crecord.specs.Flat.{numbers, numbersIn, noValue, noNumbers, isPosition, formOf, isPage, pageStage, decodes, senseFrom, stateFrom, unitFrom, identityFrom};
+ghost use Rattle.crecord.specs.Flat.{numbers, numbersIn, noValue, noNumbers, isPosition, formOf, isPage, pageStage, decodes, senseFrom, stateFrom, identityFrom};
 use crate::record::Flat;
 use crate::record::Given;
 use bot::csw::Status;
 use machine::record::Link;
-use machine::record::LogicalUnit;
 use machine::record::Stage;
 use machine::record::State;
 use machine::record::Task;
@@ -169,7 +168,7 @@ fn stage_from(flat: Flat) -> Stage
     }
 }
 
-// There is one unit, and its number is 0.
+// Whether the table has the unit, `fits` asks.
 pub fn state_from(flat: Flat) -> State
     ensures { λ r. ⌜ r ≡ stateFrom flat ⌝ }
 {
@@ -184,29 +183,12 @@ pub fn state_from(flat: Flat) -> State
             locked: flags / 8 % 2 == 1,
             task: Task {
                 stage,
-                lun: 0,
+                lun: flat.lun,
                 tag: flat.tag,
                 announced: flat.announced,
                 residue: flat.residue,
             },
         },
-    }
-}
-
-// The unit has the whole medium.
-pub fn unit_from(flat: Flat) -> LogicalUnit
-    ensures { λ r. ⌜ r ≡ unitFrom flat ⌝ }
-{
-    LogicalUnit {
-        first: 0,
-        blocks: flat.blocks,
-        sense: Sense {
-            key: flat.key,
-            asc: flat.asc,
-            ascq: flat.ascq,
-            information: flat.information,
-        },
-        switch: flat.switch,
     }
 }
 

@@ -8,7 +8,6 @@ use crate::record::Told;
 use bot::csw::Status;
 use machine::answer::Answer;
 use machine::answer::Refusal;
-use machine::record::LogicalUnit;
 use machine::record::Stage;
 use machine::record::State;
 use scsi::page::page_code;
@@ -90,11 +89,10 @@ fn numbers_of(stage: Stage) -> Numbers
     }
 }
 
-pub fn flat_of(state: State, unit: LogicalUnit) -> Flat
-    ensures { λ r. ⌜ r ≡ flatOf state unit ⌝ }
+pub fn flat_of(state: State) -> Flat
+    ensures { λ r. ⌜ r ≡ flatOf state ⌝ }
 {
     let link = state.link;
-    let sense = unit.sense;
     let task = link.task;
     let stage = task.stage;
     let flags = flags_of(state);
@@ -107,15 +105,10 @@ pub fn flat_of(state: State, unit: LogicalUnit) -> Flat
         extra: numbers.extra,
         tag: task.tag,
         announced: task.announced,
-        blocks: unit.blocks,
-        information: sense.information,
         stage: numbers.stage,
         flags,
         address: state.address,
-        key: sense.key,
-        asc: sense.asc,
-        ascq: sense.ascq,
-        switch: unit.switch,
+        lun: task.lun,
     }
 }
 
@@ -140,6 +133,7 @@ fn refusal_number(why: Refusal) -> u32
         Refusal::Packet => 13,
         Refusal::Setup => 14,
         Refusal::Number => 15,
+        Refusal::Unit => 18,
     }
 }
 

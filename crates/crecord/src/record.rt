@@ -1,4 +1,5 @@
-// The record as C holds it: numbers alone, so that any bytes that C hands over are values. include/collector.h has it again.
+// The record as C holds it: numbers alone, so that any bytes that C hands over are values. The table of units stands beside it,
+// in the structs of `machine`. include/collector.h has both again.
 #[repr(C)]
 pub struct Given {
     pub number: u64,
@@ -17,17 +18,12 @@ pub struct Flat {
     pub extra: u32,
     pub tag: u32,
     pub announced: u32,
-    pub blocks: u32,
-    pub information: u32,
     pub stage: u8,
     // Configured 1, bulk-in halted 2, bulk-out halted 4, locked 8.
     pub flags: u8,
     pub address: u8,
-    pub key: u8,
-    pub asc: u8,
-    pub ascq: u8,
-    // The write switch: 0 open, 1 closed; no other fits.
-    pub switch: u8,
+    // The unit of the command in hand, 0 where none is.
+    pub lun: u8,
 }
 
 #[repr(C)]

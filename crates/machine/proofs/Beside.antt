@@ -25,7 +25,6 @@ use Rattle.machine.specs.World.{World, dropped, Out, out}
 use Rattle.machine.specs.Control.{haltIn, haltOut}
 use Rattle.machine.specs.Wrapper.{accepted, wrapperOf}
 use Rattle.machine.specs.Bulk.{onWrapper, outStage, packetOut}
-use Rattle.machine.specs.Making.{make}
 use Rattle.machine.specs.Machine.{Event, bulkOut, fitting, checks, effect, step, run}
 use Rattle.machine.specs.Tally.{Making}
 use Rattle.machine.specs.Claim.{answers, born, Makes, lived, recovery, goodTest, WrapperDue}
@@ -34,18 +33,18 @@ use Rattle.machine.proofs.Compute.{computes}
 use Rattle.machine.proofs.Along.{always}
 use Rattle.machine.proofs.Judge.{passes}
 use Rattle.machine.proofs.Tables.{cleared-sensed, same-parts, same-total, laid-some}
+use Rattle.machine.proofs.Making.{sound, born-fresh}
 use Rattle.machine.proofs.Fit.{Fit, fit-of, fits-of}
 use Rattle.machine.proofs.Reach.{stays-fit}
 use Rattle.machine.proofs.Recover.{fits-after, fits-fresh, resets, clears-in, clears-out}
 use Rattle.machine.proofs.Due.{due}
-use Rattle.machine.proofs.Demand.{sound, born-fresh, together, made-parts, same-size}
+use Rattle.machine.proofs.Demand.{together, made-parts, same-size}
 
 -- ---- every record reached fits
 
 born-fits : (k : Making) → Makes k → Fit (born k)
 born-fits k ok =
-    let s = sound (k .identity) (k .medium) ok in
-    subst Fit (sym (born-fresh k ok)) (fit-of _ (fits-fresh (k .identity) _ (k .medium) (s .laid) (s .plain) (s .numbered)))
+    subst Fit (sym (born-fresh k ok)) (fit-of _ (fits-fresh k (sound k ok)))
 
 pub reached : Reached
 unfolding lived born
@@ -85,7 +84,7 @@ can-recover k ok es c order x y z hx hy hz = recovers (lived k es .world) (reach
 out-passed : (w : World) (p : List ℕ) → fitting w ≡ true → mediumFits (w .units) (w .medium) ≡ true → length p ≤ 64 → w .dev .state .configured ≡ true
     → step w (bulkOut p) ≡ packetOut w p
 unfolding checks effect
-out-passed w p f n h c = passes w (bulkOut p) (record { fit = f; medium = n; buffer = refl; packet = le-leb (length p) 64 h; setup = refl; configured = c })
+out-passed w p f n h c = passes w (bulkOut p) (record { fit = f; medium = n; buffer = refl; packet = le-leb (length p) 64 h; setup = refl; configured = c; unit = refl })
 
 -- an accepted wrapper begins its command
 pub taken : (w : World) (p : List ℕ) (x : Plan) → Accepts w p x → step w (bulkOut p) ≡ onWrapper (Good (headerOf p) x) w
@@ -156,8 +155,7 @@ is-due w f n u =
 whole : (k : Making) → Makes k → (es : List Event) → mediumFits (lived k es .world .units) (lived k es .world .medium) ≡ true
 unfolding mediumFits
 whole k ok es =
-    let s = sound (k .identity) (k .medium) ok in
-    simp (same-total (lived k es .world .units) (make (k .identity) (k .medium) .units) (made-parts k ok es ∙ sym (s .plain)), same-size k ok es) (s .whole)
+    simp (same-total (lived k es .world .units) (k .units) (made-parts k ok es), same-size k ok es) (sound k ok .whole)
 
 pub due-exactly : DueExactly
 due-exactly k ok es = (due (lived k es .world), is-due (lived k es .world) (reached k ok es .0) (whole k ok es))

@@ -21,19 +21,19 @@ use Rattle.machine.specs.declared.record.Stage.the-variants.{Ready, Data
 use Rattle.machine.specs.declared.record.Task.{Task}
 use Rattle.machine.specs.declared.record.LogicalUnit.{LogicalUnit}
 use Rattle.machine.specs.declared.record.Device.{Device}
-use Rattle.machine.specs.Units.{Table, unitAt, withSense, withSwitch, switchedTo}
-use Rattle.machine.specs.Record.{fresh, droppedState, moved}
+use Rattle.machine.specs.Units.{Table, unitAt, withSense, withSwitch, switchedTo, asMade}
+use Rattle.machine.specs.Record.{fresh, noDevice, droppedState, moved}
 use Rattle.machine.specs.World.{World, world, dropped}
-use Rattle.machine.specs.Making.{oneUnit}
+use Rattle.machine.specs.Making.{Made}
 use Rattle.machine.specs.Begin.{senseOf, replyOf, dataStage, firstStage, sensed, staged, begunBy, begun, begunUnit}
 use Rattle.machine.specs.Bulk.{onWrapper, cutState, cutShort}
 use Rattle.machine.specs.Machine.{Event, step}
 use Rattle.machine.specs.Tally.{Making}
-use Rattle.machine.specs.Claim.{born, lived}
+use Rattle.machine.specs.Claim.{born, Makes as IsMade, lived}
 use Rattle.machine.proofs.Along.{always}
 use Rattle.machine.proofs.StepLaws.{Next, same, status-next, block-next, byte-next, reply-next, Later, on, over, sensedAt, Changed, moves, drops, begins, turns, cuts, changes}
-use Rattle.machine.proofs.Tables.{unit-cleared, cleared-sensed, made-switched, same-parts, same-blocks}
-use Rattle.machine.proofs.Parts.{by-making}
+use Rattle.machine.proofs.Tables.{unit-cleared, cleared-sensed, unit-made, made-switched, same-parts, same-blocks}
+use Rattle.machine.proofs.Making.{by-making, born-fresh}
 
 abbrev ReplySense : (Sense → Type 0) → replies.Reply → Type 0
 ReplySense P (reply.Sense s) = P s
@@ -142,10 +142,10 @@ module _ (P : ℕ → Sense → Type 0) (made : Makes P) where
       record { units = λ n. subst (UnitSense P) (sym (unit-cleared (w .units) n)) (made .none _); stage = tt }
   keeps w v (begins c b l) h =
       senses-at _ (w .units) (c .lun) _ _ (h .units) (sensed-sense _ _ _ _ (plan-sense (P _) b _ _ (made .fails _)) (h .units _)) (first-sense _ _ _ _ (h .units _))
-  keeps w v (turns x) h =
+  keeps w v (turns x n) h =
       record {
-        units = each-set (UnitSense P) (w .units) 0 _ (h .units) (h .units 0);
-        stage = subst (λ (k : ℕ). StageSense (P k) (w .dev .state .link .task .stage)) (sym (same-blocks _ (w .units) (made-switched (w .units) x) _)) (h .stage);
+        units = each-set (UnitSense P) (w .units) n _ (h .units) (h .units n);
+        stage = subst (λ (k : ℕ). StageSense (P k) (w .dev .state .link .task .stage)) (sym (same-blocks _ (w .units) (made-switched (w .units) x n) _)) (h .stage);
       }
   keeps w v (cuts m) h = senses-at _ (w .units) _ dataPhase m (h .units) (made .phase _) tt
 
@@ -154,14 +154,21 @@ module _ (P : ℕ → Sense → Type 0) (made : Makes P) where
 
   -- ---- what a making leaves
 
-  one : (n i : ℕ) → UnitSense P (unitAt (oneUnit n) i)
-  one n zero = made .none n
-  one n (suc i) = made .none 0
+  as-made : (us : Table) (n : ℕ) → UnitSense P (unitAt (asMade us) n)
+  as-made us n = subst (UnitSense P) (sym (unit-made us n)) (made .none _)
 
-  pub made-senses : (k : Making) → Senses P (born k)
+  pub fresh-senses : (k : Making) → IsMade k → Senses P (born k)
   unfolding fresh
-  made-senses k = by-making (Senses P) k (λ i n. record { units = one n; stage = tt })
+  fresh-senses k ok = subst (Senses P) (sym (born-fresh k ok)) (record { units = as-made (k .units); stage = tt })
 
-  pub lived-senses : (k : Making) (es : List Event) → Senses P (lived k es .world)
+  -- a refused one keeps the senses of its table
+  pub made-senses : (k : Making) → ((n : ℕ) → UnitSense P (unitAt (k .units) n)) → Senses P (born k)
+  unfolding born fresh noDevice
+  made-senses k h =
+      by-making (λ (r : Made). Senses P (world (r .dev) (r .units) (k .medium))) k
+      (λ _. record { units = as-made (k .units); stage = tt })
+      (λ _. record { units = h; stage = tt })
+
+  pub lived-senses : (k : Making) → Senses P (born k) → (es : List Event) → Senses P (lived k es .world)
   unfolding lived
-  lived-senses k es = always (Senses P) (λ w e h. keeps-senses w h e) (born k) es (made-senses k)
+  lived-senses k h es = always (Senses P) (λ w e i. keeps-senses w i e) (born k) es h

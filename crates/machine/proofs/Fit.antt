@@ -1,16 +1,15 @@
 -- Number 10, one fact for each part of it, and what it tells of a command under way. Assumes nothing.
 use Prim.Native.Nat.{ℕ, _+_, _*_, _≤_, _<_}
-use mathlib.Core.Path.{_≡_, refl, ap, subst}
+use mathlib.Core.Path.{_≡_, subst}
 use mathlib.Core.Bool.{true}
-use lib.Dec.{ltb}
 use lib.ListN.{length}
 use borrow.Author.Tests.{leb-true, ltb-true}
 use Rattle.wire.proofs.Cases.{both, and-true}
 use Rattle.machine.specs.declared.record.Stage.{Stage}
-use Rattle.machine.specs.declared.record.Stage.the-variants.{Ready, DataOut, DataIn, ReplyIn, StatusDue}
+use Rattle.machine.specs.declared.record.Stage.the-variants.{DataOut}
 use Rattle.machine.specs.declared.record.Task.{Task}
 use Rattle.machine.specs.Units.{Table, unitAt, asMade, switchesFit, laidOut, mediumFits}
-use Rattle.machine.specs.Fits.{numberFits, addressFits, idleFits, lockFits, outFits, stageFits, lunFits, taskFits, fits}
+use Rattle.machine.specs.Fits.{numberFits, addressFits, idleFits, lockFits, outFits, stageFits, taskFits, fits}
 use Rattle.machine.specs.World.{World}
 use Rattle.machine.specs.Machine.{fitting}
 use Rattle.machine.proofs.Tables.{same-length, same-blocks, unit-within}
@@ -41,13 +40,13 @@ fits-of w f =
     and-true _ _ (f .laid)
     (and-true _ _ (f .switches) (and-true _ _ (f .number) (and-true _ _ (f .address) (and-true _ _ (f .idle) (and-true _ _ (f .lock) (f .task))))))
 
--- ---- a task at the stage that it has
+-- ---- a task: its unit is in the table, and its stage fits
+
+pub lun-fits : (us : Table) (t : Task) → taskFits us t ≡ true → t .lun < length us
+unfolding taskFits
+lun-fits us t f = ltb-true _ _ (both _ _ f .0)
 
 module _ (us : Table) (t : Task) (f : taskFits us t ≡ true) (g : Stage) (e : t .stage ≡ g) where
-  pub lun-fits : lunFits g (t .lun) us ≡ true
-  unfolding taskFits
-  lun-fits = subst (λ (x : Stage). lunFits x (t .lun) us ≡ true) e (both _ _ f .0)
-
   pub stage-fits : stageFits (unitAt us (t .lun) .blocks) g (t .announced) (t .residue) ≡ true
   unfolding taskFits
   stage-fits = subst (λ (x : Stage). stageFits (unitAt us (t .lun) .blocks) x (t .announced) (t .residue) ≡ true) e (both _ _ f .1)
@@ -55,17 +54,9 @@ module _ (us : Table) (t : Task) (f : taskFits us t ≡ true) (g : Stage) (e : t
 -- ---- the table counts by its parts alone
 
 module _ (us vs : Table) (e : asMade us ≡ asMade vs) where
-  same-lun : (g : Stage) (n : ℕ) → lunFits g n us ≡ lunFits g n vs
-  unfolding lunFits
-  same-lun Ready n = refl
-  same-lun (DataOut block left held) n = ap (ltb n) (same-length us vs e)
-  same-lun (DataIn place left) n = ap (ltb n) (same-length us vs e)
-  same-lun (ReplyIn reply place left) n = refl
-  same-lun (StatusDue status) n = refl
-
   pub same-task : (t : Task) → taskFits us t ≡ taskFits vs t
   unfolding taskFits
-  same-task t = simp (same-lun (t .stage) (t .lun), same-blocks us vs e (t .lun))
+  same-task t = simp (same-length us vs e, same-blocks us vs e (t .lun))
 
 -- ---- a write under way
 
@@ -76,10 +67,10 @@ pub record Writes (w : World) (block left : ℕ) : Type 0 where
   pub blocks : block + left ≤ unitAt (w .units) (w .dev .state .link .task .lun) .blocks
 
 pub writes : (w : World) (block left held : ℕ) → Fit w → mediumFits (w .units) (w .medium) ≡ true → w .dev .state .link .task .stage ≡ DataOut block left held → Writes w block left
-unfolding lunFits stageFits outFits
+unfolding stageFits outFits
 writes w block left held f m e =
     let t = w .dev .state .link .task in
-    let n = ltb-true _ _ (lun-fits (w .units) t (f .task) (DataOut block left held) e) in
+    let n = lun-fits (w .units) t (f .task) in
     record {
       listed = n;
       room = unit-within (w .units) (w .medium) (t .lun) (f .laid) m n;

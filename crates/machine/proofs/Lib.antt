@@ -1,9 +1,11 @@
 pub mod Along
 pub mod Judge
+pub mod Pairs
 pub mod Requests
 pub mod StepLaws
 pub mod Tables
 pub mod Parts
+pub mod Making
 pub mod EverySense
 pub mod Senses
 pub mod Fill
@@ -23,4 +25,9 @@ pub mod Sent
 pub mod Sheet
 pub mod RefusedBlock
 pub mod Switch
+pub mod SeveralUnits
+pub mod Apart
+pub mod Kept
+pub mod Twins
+pub mod Isolation
 pub mod Witness

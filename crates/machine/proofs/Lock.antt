@@ -77,9 +77,9 @@ module _ (w : World) (k : Locked w) where
   unfolding shutAt checks lent
   refused busReset a x = same _ a [] refl
   refused (control q b) a x = same _ a b refl
-  refused (bulkOut p) a x = same _ a [] (refusal-shut a (x .number (k .configured)))
-  refused (bulkIn b) a x = same _ a b (refusal-shut a (x .number (k .configured)))
-  refused (setSwitch y) a x = same _ a [] refl
+  refused (bulkOut p) a x = same _ a [] (refusal-shut a (x .number (k .configured) refl))
+  refused (bulkIn b) a x = same _ a b (refusal-shut a (x .number (k .configured) refl))
+  refused (setSwitch y n) a x = same _ a [] refl
 
   event : (e : Event) → Passed w e → Shut w e (effect w e)
   unfolding effect reset dropped packetOut packetIn ask deliver shutAt ends isAck
@@ -88,7 +88,7 @@ module _ (w : World) (k : Locked w) where
   event (bulkOut p) x = subst (Shut w (bulkOut p)) (sym (if-true (w .dev .state .link .haltout) (out Stall w []) _ (both _ _ (k .halted) .1))) (same (bulkOut p) Stall [] stall-shut)
   event (bulkIn b) x =
       subst (λ (a : Asked). Shut w (bulkIn b) (deliver a w b)) (sym (if-true (w .dev .state .link .haltin) (Quiet Stall) _ (both _ _ (k .halted) .0))) (same (bulkIn b) Stall b stall-shut)
-  event (setSwitch y) x = record { still = λ _. record { configured = k .configured; halted = k .halted; locked = k .locked }; medium = refl; pipe = refl }
+  event (setSwitch y n) x = record { still = λ _. record { configured = k .configured; halted = k .halted; locked = k .locked }; medium = refl; pipe = refl }
 
 -- ---- over a list
 
@@ -139,7 +139,7 @@ breaks : (w : World) (p : List ℕ) → accepted (length (w .units)) p ≡ false
 unfolding effect packetOut outStage onWrapper wrapperOf checks
 breaks w p n r u =
     judge (λ (o : Out). isRefusal (o .answer) ≡ false → o ≡ out Stall (inState w (lockedState (w .dev .state))) []) w (bulkOut p)
-    (λ a x e. absurd (true≢false (sym (x .number (u .configured)) ∙ e)))
+    (λ a x e. absurd (true≢false (sym (x .number (u .configured) refl) ∙ e)))
     (λ _ _. if-false (w .dev .state .link .haltout) _ _ (u .unhalted)
     ∙ ap (λ (g : Stage). outStage g w p) (u .ready)
     ∙ ap (λ (x : Wrapper). onWrapper x w) (if-false (accepted (length (w .units)) p) _ _ n))

@@ -40,9 +40,9 @@ use Rattle.bot.specs.Cbw.{headerOf}
 use Rattle.usb.specs.declared.request.Request.{Request}
 use Rattle.machine.specs.declared.ask.Source.{Source}
 use Rattle.machine.specs.declared.ask.Asked.{Asked}
-use Rattle.machine.specs.Units.{switchFits, Table, unitAt, inTable, cleared, switchedTo, every, withPart}
+use Rattle.machine.specs.Units.{switchFits, Table, unitAt, inTable, cleared, switchedTo, every, laidOut, withPart}
 use Rattle.machine.specs.Record.{device, noTask, withHalts, droppedState, withAddress, moved}
-use Rattle.machine.specs.Fits.{addressFits, isReady, idleFits, lockFits, outFits, inFits, stageFits, lunFits, taskFits}
+use Rattle.machine.specs.Fits.{addressFits, isReady, idleFits, lockFits, outFits, inFits, stageFits, taskFits}
 use Rattle.machine.specs.World.{World, world, inState, dropped, switched, Out, UnitOut, inUnit}
 use Rattle.machine.specs.Control.{reset}
 use Rattle.machine.specs.Begin.{hostOf, hasOf, replyOf, dataStage, firstStage, staged, begunBy, begun, begunUnit}
@@ -50,7 +50,7 @@ use Rattle.machine.specs.Bulk.{lockedState, onWrapper, onward, cutShort,
 use Rattle.machine.specs.Machine.{Event, busReset, control, bulkOut, bulkIn, setSwitch, effect, step}
 use Rattle.machine.proofs.Judge.{Passed, judge, out-configured, in-configured, switch-passed}
 use Rattle.machine.proofs.Requests.{Did, stalls, sends, acks, halts, addresses, configures, resets, performs}
-use Rattle.machine.proofs.Tables.{cleared-again, cleared-sensed, calm-cleared, same-switches, calm-switched, fits-switched, made-cleared, made-switched, same-parts, same-laid}
+use Rattle.machine.proofs.Tables.{cleared-again, cleared-sensed, calm-cleared, same-switches, calm-switched, fits-switched, made-cleared, made-switched, same-parts, laid-some, same-laid}
 use Rattle.machine.proofs.Fit.{Fit, lun-fits, stage-fits, same-task}
 
 -- ---- the first stage of a command
@@ -67,25 +67,25 @@ same-kind kind.Capacity u = refl
 same-le : (n : ℕ) → leb n n ≡ true
 same-le n = le-leb n n (omega arith)
 
-data-fits : (p : Plan) (u : LogicalUnit) (a : ℕ) → PlanFits (u .blocks) p → amount (hasOf p) ≤ a → stageFits (u .blocks) (dataStage p u) a a ≡ true
+data-fits : (n : ℕ) (p : Plan) (u : LogicalUnit) (a : ℕ) → PlanFits n p → amount (hasOf p) ≤ a → stageFits n (dataStage p u) a a ≡ true
 unfolding stageFits dataStage hasOf outFits inFits
-data-fits (Failed s) u a f h = same-le a
-data-fits Nothing u a f h = same-le a
-data-fits (Reply k n) u a f h =
+data-fits n (Failed s) u a f h = same-le a
+data-fits n Nothing u a f h = same-le a
+data-fits n (Reply k size) u a f h =
     let z = ap replySize (same-kind k u) in
-    and-true _ _ (le-leb (0 + n) (replySize (kindOf (replyOf k u))) (omega arith)) (and-true _ _ (le-leb n a h) (same-le a))
-data-fits (Read block count) u a f h =
-    and-true _ _ (le-leb (512 * block + 512 * count) (512 * u .blocks) (omega arith)) (and-true _ _ (le-leb (512 * count) a h) (same-le a))
-data-fits (Write block count) u a f h =
-    and-true _ _ (le-leb (block + count) (u .blocks) f) (and-true _ _ refl (and-true _ _ refl (and-true _ _ (le-leb (512 * count) a h) (same-le a))))
+    and-true _ _ (le-leb (0 + size) (replySize (kindOf (replyOf k u))) (omega arith)) (and-true _ _ (le-leb size a h) (same-le a))
+data-fits n (Read block count) u a f h =
+    and-true _ _ (le-leb (512 * block + 512 * count) (512 * n) (omega arith)) (and-true _ _ (le-leb (512 * count) a h) (same-le a))
+data-fits n (Write block count) u a f h =
+    and-true _ _ (le-leb (block + count) n f) (and-true _ _ refl (and-true _ _ refl (and-true _ _ (le-leb (512 * count) a h) (same-le a))))
 
-case-fits : (p : Plan) (u : LogicalUnit) (a : ℕ) (c : Case) → PlanFits (u .blocks) p → Follows a (amount (hasOf p)) c
-    → stageFits (u .blocks) (staged (c .ending) (c .moves) p u) a a ≡ true
+case-fits : (n : ℕ) (p : Plan) (u : LogicalUnit) (a : ℕ) (c : Case) → PlanFits n p → Follows a (amount (hasOf p)) c
+    → stageFits n (staged (c .ending) (c .moves) p u) a a ≡ true
 unfolding stageFits staged firstStage outFits inFits
-case-fits p u a c f (no-data e) = same-le a
-case-fits p u a c f (no-match e) = same-le a
-case-fits p u a c f (all-in h) = data-fits p u a f h
-case-fits p u a c f (all-out h) = data-fits p u a f h
+case-fits n p u a c f (no-data e) = same-le a
+case-fits n p u a c f (no-match e) = same-le a
+case-fits n p u a c f (all-in h) = data-fits n p u a f h
+case-fits n p u a c f (all-out h) = data-fits n p u a f h
 
 host-amount : (h : Header) → amount (hostOf h) ≡ h .announced
 unfolding hostOf
@@ -117,15 +117,6 @@ planned us p h x =
     broken : Broken ≡ Good h x → ⊥
     broken e = let z : _≡_ {A = ℕ} 0 1 = cc in omega arith
 
--- a unit in the table suits every stage
-any-lun : (g : Stage) (n : ℕ) (us : Table) → inTable n us ≡ true → lunFits g n us ≡ true
-unfolding lunFits
-any-lun Ready n us h = refl
-any-lun (DataOut block left held) n us h = h
-any-lun (DataIn place left) n us h = h
-any-lun (ReplyIn reply place left) n us h = refl
-any-lun (StatusDue status) n us h = refl
-
 -- ---- bounds of a transfer
 
 -- one more packet of 64 bytes
@@ -146,6 +137,11 @@ next-fits n block left a r x u v z =
     by-if (λ (g : Stage). stageFits n g a (r - 512) ≡ true) (leb left 1) _ _
     (λ _. le-leb (r - 512) a (omega arith))
     (λ e. let l = leb-false left 1 e in out-task n (block + 1) (left - 1) 0 a (r - 512) (omega arith) refl (omega arith) (omega arith) (omega arith))
+
+-- no command is in hand: its unit is 0, and a table has one
+pub none-fits : (us : Table) → laidOut us ≡ true → taskFits us noTask ≡ true
+unfolding taskFits stageFits
+none-fits us h = and-true _ _ (lt-ltb 0 (length us) (laid-some us h)) refl
 
 -- ---- a lock
 
@@ -215,7 +211,7 @@ module _ (w : World) (f : Fit w) where
       }
 
   drops : (a : ℕ) (c hi ho : Bool) → addressFits a ≡ true → (c ≡ false → (not hi and not ho) ≡ true) → Fit (dropped w a c hi ho)
-  unfolding dropped droppedState idleFits lockFits taskFits lunFits stageFits isReady if_then_else_ _and_
+  unfolding dropped droppedState idleFits lockFits isReady if_then_else_ _and_
   drops a c hi ho l h =
       record {
         laid = same-laid (cleared us) us (made-cleared us) ∙ f .laid;
@@ -225,20 +221,20 @@ module _ (w : World) (f : Fit w) where
         idle = by-if (λ (b : Bool). b ≡ true) c true (not hi and not ho and every (λ u. isNoSense (u .sense)) (cleared us)) (λ _. refl)
             (λ e. let b = both (not hi) (not ho) (h e) in and-true (not hi) _ (b .0) (and-true (not ho) _ (b .1) (calm-cleared us)));
         lock = refl;
-        task = refl;
+        task = none-fits (cleared us) (same-laid (cleared us) us (made-cleared us) ∙ f .laid);
       }
 
-  pub turns : (x : ℕ) → switchFits x ≡ true → Fit (switched w x)
+  pub turns : (x n : ℕ) → switchFits x ≡ true → Fit (switched w x n)
   unfolding idleFits
-  turns x h =
+  turns x n h =
       record {
-        laid = same-laid (switchedTo us x) us (made-switched us x) ∙ f .laid;
-        switches = fits-switched us x h (f .switches);
+        laid = same-laid (switchedTo us x n) us (made-switched us x n) ∙ f .laid;
+        switches = fits-switched us x n h (f .switches);
         number = f .number;
         address = f .address;
-        idle = simp (calm-switched us x) (f .idle);
+        idle = simp (calm-switched us x n) (f .idle);
         lock = f .lock;
-        task = same-task (switchedTo us x) us (made-switched us x) t ∙ f .task;
+        task = same-task (switchedTo us x n) us (made-switched us x n) t ∙ f .task;
       }
 
   -- ---- control requests
@@ -255,9 +251,9 @@ module _ (w : World) (f : Fit w) where
   requests q b r o e (resets c) = drops _ true _ _ (f .address) (λ x. absurd (true≢false x))
 
   -- the next stage of the command in hand, of the same unit
-  onward-fits : (g : Stage) (r : ℕ) → lunFits g (t .lun) us ≡ true → stageFits (unitAt us (t .lun) .blocks) g (t .announced) r ≡ true → taskFits us (onward s g r) ≡ true
+  onward-fits : (g : Stage) (r : ℕ) → stageFits (unitAt us (t .lun) .blocks) g (t .announced) r ≡ true → taskFits us (onward s g r) ≡ true
   unfolding taskFits
-  onward-fits g r x y = and-true _ _ x y
+  onward-fits g r x = and-true _ _ (lt-ltb _ _ (lun-fits us t (f .task))) x
 
   -- ---- a bulk-out packet, of a configured device whose bulk-out pipe is not halted
 
@@ -271,15 +267,14 @@ module _ (w : World) (f : Fit w) where
     wrappers (Good h x) e =
         let q = planned us p h x e in
         moves c free _ _ _ _ _ _ (cleared-sensed us (h .lun) _)
-        (and-true _ _ (any-lun _ (h .lun) us (q .listed)) (case-fits x (unitAt us (h .lun)) (h .announced) _ (q .fits) (case-follows h x)))
+        (and-true _ _ (q .listed) (case-fits _ x _ (h .announced) _ (q .fits) (case-follows h x)))
 
     abbrev Lifted : UnitOut → Type 0
     Lifted r = Fit (world (r .dev) (set us (t .lun) (r .unit)) (withPart (unitAt us (t .lun)) (w .medium) (r .medium)))
 
     datas : (block left held : ℕ) → t .stage ≡ DataOut block left held → (left ≡ 0 → ⊥) → Kept (inUnit w (t .lun) (onData block left held p))
-    unfolding inUnit onData cutShort gathered storedBlock cutState gatheredState storedState stageFits outFits lunFits
+    unfolding inUnit onData cutShort gathered storedBlock cutState gatheredState storedState stageFits outFits
     datas block left held e n =
-        let l = lun-fits us t (f .task) (DataOut block left held) e in
         let a = both _ _ (stage-fits us t (f .task) (DataOut block left held) e) in
         let b = both _ _ (a .1) in
         let x = both _ _ (b .1) in
@@ -291,9 +286,9 @@ module _ (w : World) (f : Fit w) where
         let same = ap cleared (set-getD us (t .lun) _) in
         by-if Lifted (eqb (length p) 64) _ _
         (λ _. by-if Lifted (ltb (held + 64) 512) _ _
-        (λ z. moves c free _ _ _ _ _ _ same (onward-fits _ _ l (out-task _ block left (held + 64) _ _ within (omega arith) (ltb-true _ _ z) due most)))
-        (λ _. moves c free _ _ _ _ _ _ same (onward-fits _ _ (any-lun (nextOut block left) (t .lun) us l) (next-fits _ block left _ _ within due most n))))
-        (λ _. moves c free _ _ _ _ _ _ (cleared-sensed us (t .lun) _) (onward-fits _ _ refl (le-leb _ _ most)))
+        (λ z. moves c free _ _ _ _ _ _ same (onward-fits _ _ (out-task _ block left (held + 64) _ _ within (omega arith) (ltb-true _ _ z) due most)))
+        (λ _. moves c free _ _ _ _ _ _ same (onward-fits _ _ (next-fits _ block left _ _ within due most n))))
+        (λ _. moves c free _ _ _ _ _ _ (cleared-sensed us (t .lun) _) (onward-fits _ _ (le-leb _ _ most)))
 
     outs : (g : Stage) → t .stage ≡ g → Kept (outStage g w p)
     unfolding outStage
@@ -316,11 +311,11 @@ module _ (w : World) (f : Fit w) where
     onwards hi ho g h = moves c open′ hi ho g _ _ _ refl h
 
     -- a transfer of bytes to the host, whatever their source: one more packet keeps its bounds
-    asks : (x : Source) (place left size : ℕ) (more : Stage) → lunFits more (t .lun) us ≡ true → inFits size place left (t .announced) (t .residue) ≡ true
+    asks : (x : Source) (place left size : ℕ) (more : Stage) → inFits size place left (t .announced) (t .residue) ≡ true
         → stageFits (unitAt us (t .lun) .blocks) more (t .announced) (t .residue - 64) ≡ inFits size (place + 64) (left - 64) (t .announced) (t .residue - 64)
         → Handed (nextPacket s left x more)
-    unfolding nextPacket deliver handedState nextIn inFits stageFits lunFits
-    asks x place left size more u v g =
+    unfolding nextPacket deliver handedState nextIn inFits stageFits
+    asks x place left size more v g =
         let h = both _ _ v in
         let k = both _ _ (h .1) in
         let y : left ≤ t .residue = leb-true _ _ (k .0) in
@@ -329,24 +324,27 @@ module _ (w : World) (f : Fit w) where
         by-if Handed (eqb left 0) _ _ (λ _. f)
         (λ _. onwards _ _ _
         (by-if (λ (i : Stage). taskFits us (onward s i (t .residue - min 64 left)) ≡ true) (leb left 64) _ _
-        (λ _. onward-fits _ _ refl (le-leb _ _ less))
+        (λ _. onward-fits _ _ (le-leb _ _ less))
         (λ e.
         let l = leb-false left 64 e in
         let j : min 64 left ≡ 64 = omega arith in
-        subst (λ (n : ℕ). taskFits us (onward s more (t .residue - n)) ≡ true) (sym j) (onward-fits more _ u (g ∙ one-more size place left _ _ l (leb-true _ _ (h .0)) y z)))))
+        subst (λ (n : ℕ). taskFits us (onward s more (t .residue - n)) ≡ true) (sym j) (onward-fits more _ (g ∙ one-more size place left _ _ l (leb-true _ _ (h .0)) y z)))))
+
+    idles : taskFits us noTask ≡ true
+    idles = none-fits us (f .laid)
 
     after : (x : Status) → Fit (inState w (afterStatus x s))
-    unfolding afterStatus lockedState withHalts moved taskFits lunFits stageFits idleFits lockFits if_then_else_ _and_
-    after status.Passed = onwards _ _ noTask refl
-    after status.Failed = onwards _ _ noTask refl
-    after status.PhaseError = let h = onwards true true noTask refl in record { laid = h .laid; switches = h .switches; number = h .number; address = h .address; idle = if-true _ _ _ c; lock = refl; task = refl }
+    unfolding afterStatus lockedState withHalts moved idleFits lockFits if_then_else_ _and_
+    after status.Passed = onwards _ _ noTask idles
+    after status.Failed = onwards _ _ noTask idles
+    after status.PhaseError = let h = onwards true true noTask idles in record { laid = h .laid; switches = h .switches; number = h .number; address = h .address; idle = if-true _ _ _ c; lock = refl; task = idles }
 
     ins : (g : Stage) → t .stage ≡ g → Handed (askStage g s)
-    unfolding askStage deliver stageFits lunFits
+    unfolding askStage deliver stageFits
     ins Ready e = f
     ins (DataOut block left held) e = f
-    ins (DataIn place left) e = asks _ place left _ _ (lun-fits us t (f .task) (DataIn place left) e) (stage-fits us t (f .task) (DataIn place left) e) refl
-    ins (ReplyIn reply place left) e = asks _ place left _ _ refl (stage-fits us t (f .task) (ReplyIn reply place left) e) refl
+    ins (DataIn place left) e = asks _ place left _ _ (stage-fits us t (f .task) (DataIn place left) e) refl
+    ins (ReplyIn reply place left) e = asks _ place left _ _ (stage-fits us t (f .task) (ReplyIn reply place left) e) refl
     ins (StatusDue x) e = after x
 
 pub stays-fit : (w : World) → Fit w → (e : Event) → Fit (step w e .world)
@@ -360,4 +358,4 @@ stays-fit w f e = judge (λ (o : Out). Fit (o .world)) w e (λ a x. f) (event e)
         by-if (λ (o : Out). Fit (o .world)) (w .dev .state .link .haltout) _ _ (λ _. f) (λ o. outs w f (out-configured p [] x) o p (w .dev .state .link .task .stage) refl)
     event (bulkIn b) x =
         by-if (λ (a : Asked). Fit (deliver a w b .world)) (w .dev .state .link .haltin) _ _ (λ _. f) (λ o. ins w f (in-configured [] b x) o b (w .dev .state .link .task .stage) refl)
-    event (setSwitch y) x = turns w f y (switch-passed x)
+    event (setSwitch y n) x = turns w f y n (switch-passed x)

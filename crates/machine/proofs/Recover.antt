@@ -1,36 +1,36 @@
 -- Mass Storage Reset and both halt clearings, all acked, leave a collector that depends on identity, parts, address and medium alone;
--- a fresh one, given an address and configured, is that collector, and its switch can be set. Assumes nothing.
-use Prim.Native.Nat.{ℕ, _≤_}
+-- a fresh one, given an address, configured, and its switches set, is that collector. Assumes nothing.
+use Prim.Native.Nat.{ℕ, suc, _+_, _≤_, _<_}
 use mathlib.Core.Path.{_≡_, refl, sym, ap, _∙_, subst}
 use mathlib.Core.Bool.{Bool, true, false, true≢false}
 use mathlib.Core.List.{List, [], _∷_, _++_}
 use native.Mathlib.Nat.{add-zero}
-use lib.ListN.{length}
-use borrow.Author.Tests.{le-leb, eq-eqb}
+use native.Mathlib.Omega.{arith}
+use lib.ListN.{length, replicate}
+use borrow.Author.Tests.{le-leb, lt-ltb, eq-eqb}
 use Rattle.wire.specs.Choice.{if_then_else_, _and_, look}
 use Rattle.wire.specs.Slices.{bytesAt}
 use Rattle.wire.specs.Numbers.{value}
-use Rattle.wire.proofs.Cases.{if-true, and-true}
-use Rattle.scsi.specs.Sense.{isNoSense}
+use Rattle.wire.proofs.Cases.{if-true, both, and-true}
 use Rattle.usb.specs.Request.{requestOf, decided, requests, isNoData, setAddress, setConfiguration, bare, endpoints, endpointOf, targetOf}
-use Rattle.usb.specs.declared.descriptor.Identity.{Identity}
 use Rattle.usb.specs.declared.request.Endpoint.the-variants.{BulkIn, BulkOut}
 use Rattle.usb.specs.declared.request.Request.{Request}
 use Rattle.usb.specs.declared.request.Request.the-variants.{SetAddress, SetConfiguration, ClearHalt, MassStorageReset}
 use Rattle.machine.specs.declared.answer.Answer.{Answer}
 use Rattle.machine.specs.declared.answer.Answer.the-variants.{Ack, Stall}
-use Rattle.machine.specs.Units.{switchFits, Table, asMade, every, switchesFit, laidOut}
+use Rattle.machine.specs.Units.{switchFits, Table, cleared, switchedTo, asMade, every, switchesFit, laidOut}
 use Rattle.machine.specs.Record.{fresh, withHalts, droppedState, withAddress}
-use Rattle.machine.specs.Fits.{numberFits, addressFits, isReady, idleFits, lockFits, stageFits, lunFits, taskFits, fits}
+use Rattle.machine.specs.Fits.{addressFits, isReady, idleFits, lockFits, fits}
 use Rattle.machine.specs.World.{World, world, inState, dropped, switched, Out, out}
 use Rattle.machine.specs.Control.{needsConfigured, haltIn, haltOut, clearHalt, perform}
 use Rattle.machine.specs.Machine.{Event, control, setSwitch, fitting, checks, effect, step, run}
-use Rattle.machine.specs.Tally.{isAck}
-use Rattle.machine.specs.Claim.{answers, setup, recovery, settingUp}
+use Rattle.machine.specs.Tally.{Making, isAck}
+use Rattle.machine.specs.Claim.{answers, setup, recovery, settingUp, switching}
 use Rattle.machine.proofs.Judge.{judge, passes, fit-passed}
-use Rattle.machine.proofs.Tables.{calm-made, fits-made}
+use Rattle.machine.proofs.Tables.{laid-made, calm-made, fits-made, cleared-made, made-cleared, made-made, made-switched, switchedFrom, switched-back, same-length}
+use Rattle.machine.proofs.Making.{Sound}
 use Rattle.machine.proofs.Fit.{Fit, fit-of, fits-of}
-use Rattle.machine.proofs.Reach.{stays-fit}
+use Rattle.machine.proofs.Reach.{none-fits, stays-fit}
 
 -- ---- the setups that the demand names are read as what they ask for
 
@@ -137,60 +137,86 @@ unfolding recovery
 recovery-fits w true x y z h = acked w _ x (first w _ _ Ack _ h .0) .1
 recovery-fits w false x y z h = acked w _ x (first w _ _ Ack _ h .0) .1
 
--- ---- a fresh collector, given an address, configured, and its switch set
+-- ---- a fresh collector, given an address, configured, and its switches set
 
 -- a control request whose checks pass is performed
 control-passed : (w : World) (q b : List ℕ) (r : Request) → fitting w ≡ true → 64 ≤ length b → length q ≡ 8 → requestOf q ≡ r → step w (control q b) ≡ perform r w b
 unfolding checks effect
 control-passed w q b r f h k e =
-    passes w (control q b) (record { fit = f; medium = refl; buffer = le-leb 64 (length b) h; packet = refl; setup = eq-eqb (length q) 8 k; configured = refl }) ∙ ap (λ (x : Request). perform x w b) e
+    passes w (control q b) (record { fit = f; medium = refl; buffer = le-leb 64 (length b) h; packet = refl; setup = eq-eqb (length q) 8 k; configured = refl; unit = refl }) ∙ ap (λ (x : Request). perform x w b) e
 
--- the switch of a record that fits goes to a position that fits
-turned : (w : World) (x : ℕ) → fitting w ≡ true → switchFits x ≡ true → step w (setSwitch x) ≡ out Ack (switched w x) []
+-- the switch of a unit of a record that fits goes to a position that fits
+turned : (w : World) (x n : ℕ) → fitting w ≡ true → switchFits x ≡ true → n < length (w .units) → step w (setSwitch x n) ≡ out Ack (switched w x n) []
 unfolding checks effect
-turned w x f h = passes w (setSwitch x) (record { fit = and-true _ _ f h; medium = refl; buffer = refl; packet = refl; setup = refl; configured = refl })
+turned w x n f h l =
+    passes w (setSwitch x n) (record { fit = and-true _ _ f h; medium = refl; buffer = refl; packet = refl; setup = refl; configured = refl; unit = lt-ltb _ _ l })
 
 -- what an event leaves fits again
 pub fits-after : (w w′ : World) (b : List ℕ) (e : Event) → fitting w ≡ true → step w e ≡ out Ack w′ b → fitting w′ ≡ true
 fits-after w w′ b e f h = fits-of w′ (subst (λ (o : Out). Fit (o .world)) h (stays-fit w (fit-of w f) e))
 
-module _ (i : Identity) (us : Table) (m : List ℕ) (laid : laidOut us ≡ true) (plain : asMade us ≡ us) (numbered : numberFits (i .number) ≡ true) where
+-- a run all of whose events are acked, and what it has come to
+pub record Acked (w : World) (es : List Event) (n : ℕ) (w′ : World) : Type 0 where
+  pub said : answers (run w es .replies) ≡ replicate n Ack
+  pub comes-to : run w es .world ≡ w′
+
+acked-first : (w w₁ w′ : World) (b : List ℕ) (e : Event) (es : List Event) (n : ℕ) → step w e ≡ out Ack w₁ b → Acked w₁ es n w′ → Acked w (e ∷ es) (suc n) w′
+unfolding run answers
+acked-first w w₁ w′ b e es n h r =
+    record {
+      said = ap (λ (o : Out). o .answer ∷ answers (run (o .world) es .replies)) h ∙ ap (λ (l : List Answer). Ack ∷ l) (r .said);
+      comes-to = ap (λ (o : Out). run (o .world) es .world) h ∙ r .comes-to;
+    }
+
+-- every switch set where a table of positions that fit has it
+all-turned : (w : World) (n : ℕ) (vs : Table) → fitting w ≡ true → switchesFit vs ≡ true → n + length vs ≤ length (w .units)
+    → Acked w (switching n vs) (length vs) (world (w .dev) (switchedFrom n vs (w .units)) (w .medium))
+unfolding switching switchedFrom run answers every
+all-turned w n [] f h l = record { said = refl; comes-to = refl }
+all-turned w n (v ∷ vs) f h l =
+    let h′ = both _ _ h in
+    let e = turned w (v .switch) n f (h′ .0) (omega arith) in
+    let same = same-length (switchedTo (w .units) (v .switch) n) (w .units) (made-switched (w .units) (v .switch) n) in
+    acked-first w _ _ [] _ _ _ e (all-turned (switched w (v .switch) n) (suc n) vs (fits-after w _ [] _ f e) (h′ .1) (omega arith))
+
+module _ (k : Making) (s : Sound k) where
   abbrev new : World
-  new = world (fresh i) us m
+  new = world (fresh (k .identity)) (asMade (k .units)) (k .medium)
 
-  calm : every (λ u. isNoSense (u .sense)) us ≡ true
-  calm = subst (λ (t : Table). every (λ u. isNoSense (u .sense)) t ≡ true) plain (calm-made us)
-
-  unclosed : switchesFit us ≡ true
-  unclosed = subst (λ (t : Table). switchesFit t ≡ true) plain (fits-made us)
+  laid : laidOut (asMade (k .units)) ≡ true
+  laid = laid-made (k .units) ∙ s .laid
 
   pub fits-fresh : fitting new ≡ true
-  unfolding fits fresh addressFits idleFits isReady lockFits taskFits lunFits stageFits if_then_else_ _and_
-  fits-fresh = simp (laid, unclosed, numbered, calm)
+  unfolding fits fresh addressFits idleFits isReady lockFits if_then_else_ _and_
+  fits-fresh = simp (laid, fits-made (k .units), s .numbered, calm-made (k .units), none-fits (asMade (k .units)) laid)
 
   module _ (a : ℕ) (x y : List ℕ) (low : a ≤ 0x7F) (hx : 64 ≤ length x) (hy : 64 ≤ length y) where
     abbrev named : World
-    named = inState new (withAddress (fresh i .state) a)
+    named = inState new (withAddress (fresh (k .identity) .state) a)
 
     addressed : step new (control (setup 0x00 0x05 a 0) x) ≡ out Ack named x
     unfolding perform fresh if_then_else_
     addressed = control-passed new _ x (SetAddress a) fits-fresh hx refl (read-address a low)
 
+    fits-named : fitting named ≡ true
+    fits-named = fits-after new named x _ fits-fresh addressed
+
     configured : step named (control (setup 0x00 0x09 1 0) y) ≡ out Ack (dropped new a true false false) y
     unfolding perform fresh dropped droppedState withAddress
-    configured = control-passed named _ y (SetConfiguration 1) (fits-after new named x _ fits-fresh addressed) hy refl read-configure
+    configured = control-passed named _ y (SetConfiguration 1) fits-named hy refl read-configure
 
-    module _ (position : ℕ) (fitted : switchFits position ≡ true) where
-      switches : step (dropped new a true false false) (setSwitch position) ≡ out Ack (switched (dropped new a true false false) position) []
-      switches = turned _ position (fits-after named _ y _ (fits-after new named x _ fits-fresh addressed) configured) fitted
-
-      pub set-up : run new (settingUp a x y ++ setSwitch position ∷ [])
-          ≡ record {
-            replies = record { answer = Ack; buffer = x; medium = m } ∷ record { answer = Ack; buffer = y; medium = m } ∷ record { answer = Ack; buffer = []; medium = m } ∷ [];
-            world = switched (dropped new a true false false) position;
-          }
-      unfolding run settingUp dropped
-      set-up = rw (addressed, configured, switches)
+    -- given the address, configured, and every switch set as a table of its parts has it
+    pub set-up : (vs : Table) → switchesFit vs ≡ true → asMade vs ≡ asMade (k .units)
+        → Acked new (settingUp a x y ++ switching 0 vs) (suc (suc (length vs))) (world (dropped new a true false false .dev) (cleared vs) (k .medium))
+    unfolding settingUp dropped
+    set-up vs h e =
+        let ready = dropped new a true false false in
+        let units = asMade (k .units) in
+        let same : switchedFrom 0 vs (cleared units) ≡ cleared vs = ap (switchedFrom 0 vs) (cleared-made (k .units) ∙ sym e) ∙ switched-back vs in
+        let long = same-length vs (cleared units) (e ∙ sym (made-cleared units ∙ made-made (k .units))) in
+        let turns = all-turned ready 0 vs (fits-after named ready y _ fits-named configured) h (omega arith) in
+        subst (λ (t : Table). Acked new (settingUp a x y ++ switching 0 vs) (suc (suc (length vs))) (world (ready .dev) t (k .medium))) same
+        (acked-first new named _ x _ _ _ addressed (acked-first named ready _ y _ _ _ configured turns))
 
 -- ---- the recovery of a configured device whose record fits is acked, with buffers of 64 bytes or more
 

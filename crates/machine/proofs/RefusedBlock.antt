@@ -17,12 +17,12 @@ use Rattle.machine.specs.Units.{unitAt, withSense}
 use Rattle.machine.specs.World.{Out}
 use Rattle.machine.specs.Begin.{hostOf, hasOf, senseOf, sensed, begunUnit}
 use Rattle.machine.specs.Bulk.{onWrapper}
-use Rattle.machine.specs.Sheet.{cbw, testUnitReady, requestSense, onBlocks, configure, sent, commandIn, command, hands, status, senses, outsideData, events, due, told, outcome, wanted, Hold}
+use Rattle.machine.specs.Sheet.{cbw, testUnitReady, requestSense, onBlocks, configure, sent, commandIn, command, hands, status, senses, outsideData, events, due, told, outcome, wanted, HoldOver, parts}
 use Rattle.machine.specs.RefusedBlock.{SenseLeft, carries, BlocksCarried, refused, paper, noData, codeData, examples, ExamplesHold}
 use Rattle.machine.proofs.Beside.{taken}
 use Rattle.machine.proofs.Compute.{computes}
 use Rattle.machine.proofs.StepLaws.{listed}
-use Rattle.machine.proofs.EverySense.{StageSense, Makes, lived-senses}
+use Rattle.machine.proofs.EverySense.{StageSense, Makes, fresh-senses, lived-senses}
 
 -- ---- a command that fails
 
@@ -50,12 +50,12 @@ made = record {
 }
 
 pub blocks-carried : BlocksCarried
-blocks-carried k es =
-    let h = lived-senses Carried made k es in
+blocks-carried k ok es =
+    let h = lived-senses Carried made k (fresh-senses Carried made k ok) es in
     record { units = h .units; found = λ n place left e. subst (StageSense (Carried _)) e (h .stage) }
 
 -- ---- the examples, computed by the checker: a row to each `refl`
 
 pub examples-hold : ExamplesHold
-unfolding computes cbw testUnitReady requestSense onBlocks configure sent commandIn command hands status senses outsideData refused paper noData codeData examples events due told outcome wanted Hold
+unfolding computes cbw testUnitReady requestSense onBlocks configure sent commandIn command hands status senses outsideData refused paper noData codeData examples events due told outcome wanted HoldOver parts
 examples-hold = (refl, (refl, (refl, (refl, (refl, (refl, (refl, (refl, (refl, (refl, tt))))))))))

@@ -97,7 +97,7 @@ ended h k s u =
 -- an ask whose checks pass
 in-passed : (w : World) (b : List ℕ) → fitting w ≡ true → mediumFits (w .units) (w .medium) ≡ true → 64 ≤ length b → w .dev .state .configured ≡ true → step w (bulkIn b) ≡ packetIn w b
 unfolding checks effect
-in-passed w b f n h c = passes w (bulkIn b) (record { fit = f; medium = n; buffer = le-leb 64 (length b) h; packet = refl; setup = refl; configured = c })
+in-passed w b f n h c = passes w (bulkIn b) (record { fit = f; medium = n; buffer = le-leb 64 (length b) h; packet = refl; setup = refl; configured = c; unit = refl })
 
 -- a reply of at most a packet is handed out at once
 handed : (w : World) (b : List ℕ) (r : replies.Reply) (n : ℕ) → w .dev .state .link .haltin ≡ false → w .dev .state .link .task .stage ≡ ReplyIn r 0 n → 0 < n → n ≤ 64

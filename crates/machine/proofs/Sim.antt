@@ -29,7 +29,6 @@ use Rattle.machine.specs.declared.answer.Answer.the-variants.{Data, Ack,
 use Rattle.machine.specs.Units.{Table, unitAt, cleared, switchedTo, asMade, partOf, withPart}
 use Rattle.machine.specs.Record.{device, noTask, withHalts, droppedState, withAddress, moved}
 use Rattle.machine.specs.World.{World, world, inState, dropped, switched, Out, out, UnitOut, inUnit}
-use Rattle.machine.specs.Making.{make}
 use Rattle.machine.specs.Control.{reset}
 use Rattle.machine.specs.Wrapper.{wrapperOf}
 use Rattle.machine.specs.Begin.{begunBy, begun, begunUnit}
@@ -75,18 +74,26 @@ pub data Together : Tally → Stage → ℕ → List ℕ → Type 0 where
 pub record Sim (k : Making) (l : Log) (w : World) : Type 0 where
   pub identity : w .dev .identity ≡ k .identity
   pub units : cleared (w .units) ≡ l .units
-  pub parts : asMade (l .units) ≡ make (k .identity) (k .medium) .units
+  pub parts : asMade (l .units) ≡ asMade (k .units)
   pub address : w .dev .state .address ≡ l .address
   pub configured : w .dev .state .configured ≡ l .configured
   pub tally : Together (l .tally) (w .dev .state .link .task .stage) (w .dev .state .link .task .lun) (w .dev .part)
   pub medium : w .medium ≡ stored (l .units) (k .medium) (l .arrived)
+
+-- the table's parts are the making's
+pub parts-of : (k : Making) (l : Log) (w : World) → Sim k l w → asMade (w .units) ≡ asMade (k .units)
+parts-of k l w s = sym (made-cleared (w .units)) ∙ ap asMade (s .units) ∙ s .parts
+
+-- the history reads a wrapper as the machine does
+pub same-wrapper : (k : Making) (l : Log) (w : World) → Sim k l w → (p : List ℕ) → wrapperOf (l .units) p ≡ wrapperOf (w .units) p
+same-wrapper k l w s p = ap (λ (t : Table). wrapperOf t p) (sym (s .units)) ∙ wrapper-cleared (w .units) p
 
 -- what an event with this answer leaves is again together
 abbrev Kept : Making → Log → Event → Out → Type 0
 Kept k l e o = Sim k (noted l e (o .answer)) (o .world)
 
 -- where no block is due the tally is idle and the part block zeros
-at-rest : {t : Tally} {g : Stage} {v : ℕ} {b : List ℕ} → Together t g v b → Still g → (t ≡ idle) × (b ≡ zeros 512)
+pub at-rest : {t : Tally} {g : Stage} {v : ℕ} {b : List ℕ} → Together t g v b → Still g → (t ≡ idle) × (b ≡ zeros 512)
 at-rest (rests h z) f = (refl, z)
 at-rest (gathers x) f = absurd f
 
@@ -139,16 +146,16 @@ module _ (k : Making) (l : Log) (w : World) (s : Sim k l w) where
       record { identity = s .identity; units = cleared-again us ∙ s .units; parts = s .parts; address = e; configured = f; tally = rests tt refl; medium = s .medium }
 
   -- the switch is set: the history has it too, and parts and blocks stay
-  turns : (x : ℕ) → Sim k (log (l .tally) (l .address) (l .configured) (switchedTo (l .units) x) (l .arrived)) (switched w x)
-  turns x =
+  turns : (x n : ℕ) → Sim k (log (l .tally) (l .address) (l .configured) (switchedTo (l .units) x n) (l .arrived)) (switched w x n)
+  turns x n =
       record {
         identity = s .identity;
-        units = cleared-switched us x ∙ ap (λ (t : Table). switchedTo t x) (s .units);
-        parts = made-switched (l .units) x ∙ s .parts;
+        units = cleared-switched us x n ∙ ap (λ (t : Table). switchedTo t x n) (s .units);
+        parts = made-switched (l .units) x n ∙ s .parts;
         address = s .address;
         configured = s .configured;
         tally = s .tally;
-        medium = s .medium ∙ sym (stored-same (switchedTo (l .units) x) (l .units) (k .medium) (l .arrived) (made-switched (l .units) x));
+        medium = s .medium ∙ sym (stored-same (switchedTo (l .units) x n) (l .units) (k .medium) (l .arrived) (made-switched (l .units) x n));
       }
 
   -- a command moves on: tally, blocks that arrived, task, part block, table, medium
@@ -253,7 +260,7 @@ module _ (k : Making) (l : Log) (w : World) (s : Sim k l w) where
     wrappers Broken e i z = quiet (bulkOut p) Stall _ refl (halted true true true)
     wrappers (Good h c) e i z =
         packet idle (turned l (writeOf h c) []) _ i (ap (λ (x : Wrapper). turned l (beginning x) []) e)
-        (moves (writeOf h c) [] _ _ _ (d .part) _ (w .medium) (begun-together (d .part) (grant h c (unitAt us (h .lun))) z) (cleared-sensed us (h .lun) _) refl)
+        (moves (writeOf h c) [] _ _ _ (d .part) _ (w .medium) (begun-together (d .part) (grant h c _) z) (cleared-sensed us (h .lun) _) refl)
 
     -- the packet is data: it goes behind what is held
     module _ {block left held : ℕ} {bytes : List ℕ} (i : l .tally ≡ writing (t₀ .lun) block left bytes) (g : Gathers left bytes held (d .part)) (f : Writes w block left) where
@@ -339,7 +346,7 @@ module _ (k : Making) (l : Log) (w : World) (s : Sim k l w) where
     unfolding outStage isAck
     outs Ready e x =
         let r = resting Ready e tt in
-        wrappers (wrapperOf us p) (ap (λ (t : Table). wrapperOf t p) (sym (s .units)) ∙ wrapper-cleared us p) (r .0) (r .1)
+        wrappers (wrapperOf us p) (same-wrapper k l w s p) (r .0) (r .1)
     outs (DataOut block left held) e x =
         by-if Taken (eqb left 0) _ _ (λ _. ignored _ Nak refl)
         (λ _. datas block left held (t₀ .lun) (l .tally) refl refl (subst (λ (y : Stage). Together (l .tally) y (t₀ .lun) (d .part)) e (s .tally))
@@ -359,4 +366,4 @@ simulates k l w e s = judge (Kept k l e) w e (λ a x. ignored k l w s e a (x .qu
         by-if (Kept k l (bulkOut p)) (w .dev .state .link .haltout) _ _ (λ _. ignored k l w s _ Stall refl) (λ _. outs k l w s p (w .dev .state .link .task .stage) refl x)
     event (bulkIn b) x =
         by-if (λ (a : asking.Asked). Kept k l (bulkIn b) (deliver a w b)) (w .dev .state .link .haltin) _ _ (λ _. ignored k l w s _ Stall refl) (λ _. ins k l w s b (w .dev .state .link .task .stage) refl)
-    event (setSwitch y) x = loud k l w s (setSwitch y) _ (turns k l w s y)
+    event (setSwitch y n) x = loud k l w s (setSwitch y n) _ (turns k l w s y n)

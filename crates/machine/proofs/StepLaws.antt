@@ -65,7 +65,7 @@ pub data Changed (w : World) : Event → World → Type 0 where
   moves : {e : Event} (s : State) (p m : List ℕ) → Later (w .dev .state .link .task) (s .link .task) → Changed w e (world (device (w .dev .identity) s p) (w .units) m)
   drops : {e : Event} (a : ℕ) (c hi ho : Bool) → Changed w e (dropped w a c hi ho)
   begins : {e : Event} (h : Header) (b : List ℕ) → h .lun < length (w .units) → Changed w e (onWrapper (Good h (planFor (unitAt (w .units) (h .lun)) b)) w .world)
-  turns : (x : ℕ) → Changed w (setSwitch x) (switched w x)
+  turns : (x n : ℕ) → Changed w (setSwitch x n) (switched w x n)
   cuts : {e : Event} (m : List ℕ) → Changed w e (world (cutShort (w .dev)) (sensedAt (w .units) (w .dev .state .link .task .lun) dataPhase) m)
 
 -- what an event leaves of the collector w and the buffer b
@@ -182,7 +182,7 @@ module _ (w : World) where
   passed (bulkIn b) x =
       let h = in-room b b x in
       by-if (Hands _ b h) (s .link .haltin) _ _ (λ _. (stalled, stays)) (λ _. asks _ b h (s .link .task .stage) refl)
-  passed (setSwitch y) x = (acked _, turns y)
+  passed (setSwitch y n) x = (acked _, turns y n)
 
   does : (e : Event) → Does w e (lent e) (step w e)
   does e = judge (Does w e (lent e)) w e (λ a x. (unchanged a (x .still), stays)) (passed e)

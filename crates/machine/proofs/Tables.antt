@@ -5,7 +5,7 @@ use mathlib.Core.Bool.{Bool, true}
 use mathlib.Core.List.{List, [], _∷_, map}
 use native.Mathlib.Omega.{arith}
 use lib.Dec.{eqb}
-use lib.ListN.{length, set, length-map, List·getD-map}
+use lib.ListN.{length, take, drop, set, length-map, List·getD-map}
 use lib.Seq.{map-set-same}
 use borrow.Author.Tests.{eqb-true, leb-true}
 use Rattle.wire.specs.Choice.{_and_}
@@ -15,7 +15,7 @@ use Rattle.wire.proofs.Parts.{put-back, placed-part}
 use Rattle.scsi.specs.Sense.{noSense, isNoSense}
 use Rattle.scsi.specs.declared.sense.Sense.{Sense}
 use Rattle.machine.specs.declared.record.LogicalUnit.{LogicalUnit}
-use Rattle.machine.specs.Units.{blockSize, sizeFits, switchFits, Table, unit, unitAt, withSense, unsensed, cleared, isProtected, withSwitch, switchedTo, unused, asMade, every, switchesFit, total, follow, laidOut, mediumFits, partOf, withPart}
+use Rattle.machine.specs.Units.{blockSize, mostBlocks, sizeFits, switchFits, Table, unit, unitAt, withSense, unsensed, cleared, isProtected, withSwitch, switchedTo, unused, asMade, every, switchesFit, total, follow, laidOut, mediumFits, partOf, withPart}
 use Rattle.machine.specs.Wrapper.{wrapperOf}
 
 -- ---- each unit made into another
@@ -71,26 +71,24 @@ same-switches us vs e = sym (switches-cleared us) ∙ ap switchesFit e ∙ switc
 
 -- ---- switches
 
-pub cleared-switched : (us : Table) (x : ℕ) → cleared (switchedTo us x) ≡ switchedTo (cleared us) x
+-- another position of one switch, in a table made into another unit by unit
+pub cleared-switched : (us : Table) (x n : ℕ) → cleared (switchedTo us x n) ≡ switchedTo (cleared us) x n
 unfolding cleared switchedTo withSwitch
-cleared-switched [] x = refl
-cleared-switched (u ∷ us) x = refl
+cleared-switched [] x n = refl
+cleared-switched (u ∷ us) x zero = refl
+cleared-switched (u ∷ us) x (suc n) = ap (λ (t : Table). unsensed u ∷ t) (cleared-switched us x n)
 
-pub calm-switched : (us : Table) (x : ℕ) → every (λ u. isNoSense (u .sense)) (switchedTo us x) ≡ every (λ u. isNoSense (u .sense)) us
+pub calm-switched : (us : Table) (x n : ℕ) → every (λ u. isNoSense (u .sense)) (switchedTo us x n) ≡ every (λ u. isNoSense (u .sense)) us
 unfolding every switchedTo withSwitch
-calm-switched [] x = refl
-calm-switched (u ∷ us) x = refl
+calm-switched [] x n = refl
+calm-switched (u ∷ us) x zero = refl
+calm-switched (u ∷ us) x (suc n) = ap (λ (b : Bool). isNoSense (u .sense) and b) (calm-switched us x n)
 
-pub fits-switched : (us : Table) (x : ℕ) → switchFits x ≡ true → switchesFit us ≡ true → switchesFit (switchedTo us x) ≡ true
+pub fits-switched : (us : Table) (x n : ℕ) → switchFits x ≡ true → switchesFit us ≡ true → switchesFit (switchedTo us x n) ≡ true
 unfolding every switchedTo withSwitch
-fits-switched [] x h e = refl
-fits-switched (u ∷ us) x h e = and-true _ _ h (both _ _ e .1)
-
-pub switch-at : (us : Table) (n : ℕ) → switchesFit us ≡ true → switchFits (unitAt us n .switch) ≡ true
-unfolding every switchFits
-switch-at [] n e = refl
-switch-at (u ∷ us) zero e = both _ _ e .0
-switch-at (u ∷ us) (suc n) e = switch-at us n (both _ _ e .1)
+fits-switched [] x n h e = refl
+fits-switched (u ∷ us) x zero h e = and-true _ _ h (both _ _ e .1)
+fits-switched (u ∷ us) x (suc n) h e = and-true _ _ (both _ _ e .0) (fits-switched us x n h (both _ _ e .1))
 
 -- ---- the table as made: its parts
 
@@ -98,7 +96,7 @@ length-made : (us : Table) → length (asMade us) ≡ length us
 unfolding asMade
 length-made us = length-map us unused
 
-unit-made : (us : Table) (n : ℕ) → unitAt (asMade us) n ≡ unused (unitAt us n)
+pub unit-made : (us : Table) (n : ℕ) → unitAt (asMade us) n ≡ unused (unitAt us n)
 unfolding asMade
 unit-made us n = List·getD-map unused us n (unit 0 0 noSense 0)
 
@@ -112,7 +110,7 @@ unfolding follow asMade
 follow-made k [] = refl
 follow-made k (u ∷ us) = ap (λ (b : Bool). eqb (u .first) k and sizeFits (u .blocks) and b) (follow-made (k + u .blocks) us)
 
-laid-made : (us : Table) → laidOut (asMade us) ≡ laidOut us
+pub laid-made : (us : Table) → laidOut (asMade us) ≡ laidOut us
 unfolding laidOut
 laid-made us = simp (length-made us, follow-made 0 us)
 
@@ -132,26 +130,49 @@ pub made-cleared : (us : Table) → asMade (cleared us) ≡ asMade us
 unfolding cleared asMade
 made-cleared us = map-twice unused unsensed unused (λ u. refl) us
 
-pub made-switched : (us : Table) (x : ℕ) → asMade (switchedTo us x) ≡ asMade us
+pub made-made : (us : Table) → asMade (asMade us) ≡ asMade us
+unfolding asMade
+made-made us = map-twice unused unused unused (λ u. refl) us
+
+pub made-switched : (us : Table) (x n : ℕ) → asMade (switchedTo us x n) ≡ asMade us
 unfolding asMade switchedTo withSwitch
-made-switched [] x = refl
-made-switched (u ∷ us) x = refl
+made-switched us x n = map-set-same unused us n (withSwitch (unitAt us n) x) (unit 0 0 noSense 0) refl
+
+-- the switches of one table set in another, from its unit n on
+unfoldable pub switchedFrom : ℕ → Table → Table → Table
+switchedFrom n [] us = us
+switchedFrom n (v ∷ vs) us = switchedFrom (suc n) vs (switchedTo us (v .switch) n)
+
+switches-behind : (n : ℕ) (vs : Table) (u : LogicalUnit) (us : Table) → switchedFrom (suc n) vs (u ∷ us) ≡ u ∷ switchedFrom n vs us
+unfolding switchedFrom switchedTo
+switches-behind n [] u us = refl
+switches-behind n (v ∷ vs) u us = switches-behind (suc n) vs u (switchedTo us (v .switch) n)
+
+-- a table as made, with every switch set again, is that table cleared
+pub switched-back : (us : Table) → switchedFrom 0 us (asMade us) ≡ cleared us
+unfolding switchedFrom switchedTo withSwitch asMade cleared
+switched-back [] = refl
+switched-back (u ∷ us) = switches-behind 0 us (unsensed u) (asMade us) ∙ ap (λ (t : Table). unsensed u ∷ t) (switched-back us)
 
 -- tables that differ in their senses have the same parts
 pub same-parts : (us vs : Table) → cleared us ≡ cleared vs → asMade us ≡ asMade vs
 same-parts us vs e = sym (made-cleared us) ∙ ap asMade e ∙ made-cleared vs
 
--- one unit as made, its switch set again
-pub switched-back : (us : Table) → length us ≡ 1 → cleared us ≡ us → switchedTo (asMade us) (unitAt us 0 .switch) ≡ us
-unfolding cleared asMade switchedTo withSwitch
-switched-back [] n e = absurd (omega arith)
-switched-back (u ∷ []) n e = e
-switched-back (u ∷ v ∷ us) n e = absurd (omega arith)
-
 -- a table that is laid out has a unit
 pub laid-some : (us : Table) → laidOut us ≡ true → 1 ≤ length us
 unfolding laidOut
 laid-some us h = leb-true _ _ (both _ _ h .0)
+
+-- and each of its units, one beyond it too, is within the limit
+small-from : (us : Table) (k n : ℕ) → follow k us ≡ true → unitAt us n .blocks ≤ mostBlocks
+unfolding follow sizeFits
+small-from [] k n h = omega arith
+small-from (u ∷ us) k zero h = leb-true _ _ (both _ _ (both _ _ (both _ _ h .1) .0) .1)
+small-from (u ∷ us) k (suc n) h = small-from us (k + u .blocks) n (both _ _ (both _ _ h .1) .1)
+
+pub unit-small : (us : Table) (n : ℕ) → laidOut us ≡ true → unitAt us n .blocks ≤ mostBlocks
+unfolding laidOut
+unit-small us n h = small-from us 0 n (both _ _ (both _ _ h .1) .1)
 
 -- two tables of the same parts
 module _ (us vs : Table) (e : asMade us ≡ asMade vs) where
@@ -170,10 +191,19 @@ module _ (us vs : Table) (e : asMade us ≡ asMade vs) where
   pub same-blocks : (n : ℕ) → unitAt us n .blocks ≡ unitAt vs n .blocks
   same-blocks n = ap (λ (u : LogicalUnit). u .blocks) (sym (unit-made us n) ∙ ap (λ (t : Table). unitAt t n) e ∙ unit-made vs n)
 
+  -- a unit's part of a medium, and the medium with others there
+  pub same-part : (n : ℕ) (m : List ℕ) → partOf (unitAt us n) m ≡ partOf (unitAt vs n) m
+  unfolding partOf
+  same-part n m = λ i. take (blockSize * same-blocks n i) (drop (blockSize * same-first n i) m)
+
+  pub same-with : (n : ℕ) (m s : List ℕ) → withPart (unitAt us n) m s ≡ withPart (unitAt vs n) m s
+  unfolding withPart
+  same-with n m s = ap (λ (k : ℕ). placed m (blockSize * k) s) (same-first n)
+
 -- ---- parts
 
 -- a unit lies behind what is before the table, and in its sum
-within : (us : Table) (k n : ℕ) → follow k us ≡ true → n < length us → (k ≤ unitAt us n .first) × (unitAt us n .first + unitAt us n .blocks ≤ k + total us)
+pub within : (us : Table) (k n : ℕ) → follow k us ≡ true → n < length us → (k ≤ unitAt us n .first) × (unitAt us n .first + unitAt us n .blocks ≤ k + total us)
 unfolding follow total
 within [] k n h l = absurd (omega arith)
 within (u ∷ us) k zero h l = let e : u .first ≡ k = eqb-true _ _ (both _ _ h .0) in (omega arith, omega arith)

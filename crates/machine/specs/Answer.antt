@@ -1,4 +1,4 @@
--- Document 01's "Numbers that come back": the number of each answer, and the count of bytes that data has.
+-- Document 01's "Numbers that come back", with number 18 of document 02, A7: the number of each answer, and the count of bytes that data has.
 use Prim.Native.Nat.{ℕ}
 use Rattle.machine.specs.declared.answer.Answer.{Answer}
 use Rattle.machine.specs.declared.answer.Answer.the-variants.{Data, Ack, Nak, Stall, Silent, Refused}
@@ -12,6 +12,7 @@ refusalNumber refusal.Buffer = 12
 refusalNumber refusal.Packet = 13
 refusalNumber refusal.Setup = 14
 refusalNumber refusal.Number = 15
+refusalNumber refusal.Unit = 18
 
 abbrev pub numberOf : Answer → ℕ
 numberOf (Data n) = 0

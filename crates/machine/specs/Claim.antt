@@ -1,10 +1,10 @@
 -- Demand 3, as one statement about whole lists of events.
-use Prim.Native.Nat.{ℕ, _≤_}
+use Prim.Native.Nat.{ℕ, suc, _≤_}
 use mathlib.Core.Path.{_≡_}
 use mathlib.Core.Bool.{Bool, true, false, _||_}
 use mathlib.Core.List.{List, [], _∷_, _++_}
 use lib.Dec.{leb, eqb}
-use lib.ListN.{length}
+use lib.ListN.{length, replicate}
 use Rattle.wire.specs.Choice.{_and_}
 use Rattle.wire.specs.Slices.{byteAt}
 use Rattle.bot.specs.Cbw.{headerOf}
@@ -15,7 +15,7 @@ use Rattle.usb.specs.declared.request.Request.the-variants as request
 use Rattle.machine.specs.declared.answer.Answer.{Answer}
 use Rattle.machine.specs.declared.answer.Answer.the-variants.{Ack, Nak, Stall}
 use Rattle.machine.specs.Answer.{numberOf}
-use Rattle.machine.specs.Units.{unitAt}
+use Rattle.machine.specs.Units.{Table}
 use Rattle.machine.specs.Making.{make}
 use Rattle.machine.specs.Wrapper.{accepted}
 use Rattle.machine.specs.World.{World, world}
@@ -30,10 +30,10 @@ answers (r ∷ rs) = r .answer ∷ answers rs
 
 -- What a making leaves, and what its collector has come to after the events.
 unfoldable pub born : Making → World
-born k = let r = make (k .identity) (k .medium) in world (r .dev) (r .units) (k .medium)
+born k = let r = make (k .identity) (k .units) (k .medium) in world (r .dev) (r .units) (k .medium)
 
 abbrev pub Makes : Making → Type 0
-Makes k = make (k .identity) (k .medium) .answer ≡ Ack
+Makes k = make (k .identity) (k .units) (k .medium) .answer ≡ Ack
 
 unfoldable pub lived : Making → List Event → Run
 lived k es = run (born k) es
@@ -56,9 +56,14 @@ recovery false x y z = control (setup 0x21 0xFF 0 0) x ∷ control (setup 0x02 0
 unfoldable pub settingUp : ℕ → List ℕ → List ℕ → List Event
 settingUp a x y = control (setup 0x00 0x05 a 0) x ∷ control (setup 0x00 0x09 1 0) y ∷ []
 
--- "the fresh collector has the switch as the history left it" (document 02, A4): it is made, and then set
+-- Every switch set where a table has it, its units counted from n on.
+unfoldable pub switching : ℕ → Table → List Event
+switching n [] = []
+switching n (u ∷ us) = setSwitch (u .switch) n ∷ switching (suc n) us
+
+-- "the fresh collector has the switch as the history left it" (document 02, A4), of every unit: it is made, and then set
 unfoldable pub settings : Log → List ℕ → List ℕ → List Event
-settings l x y = settingUp (l .address) x y ++ setSwitch (unitAt (l .units) 0 .switch) ∷ []
+settings l x y = settingUp (l .address) x y ++ switching 0 (l .units)
 
 -- ---- a wrapper is due on an unhalted pipe
 
@@ -73,18 +78,18 @@ WrapperDue w =
 
 -- ---- the first half: recovery
 
--- A fresh collector of the making's identity, over the medium that is left.
+-- A fresh collector of the making's identity, over the medium that is left: "the fresh collector has the same parts" (document 02, A7).
 abbrev pub anew : Making → Run → Making
-anew k r = record { identity = k .identity; medium = r .world .medium }
+anew k r = record { identity = k .identity; units = k .units; medium = r .world .medium }
 
--- A collector that came to the run r is as that one, given the history's address, configured, and with the history's switch.
+-- A collector that came to the run r is as that one, given the history's address, configured, and with the history's switches.
 pub record AsFresh (k : Making) (l : Log) (r : Run) (x y : List ℕ) : Type 0 where
   pub makes : Makes (anew k r)
-  pub sets-up : answers (lived (anew k r) (settings l x y) .replies) ≡ (Ack ∷ Ack ∷ Ack ∷ [])
+  pub sets-up : answers (lived (anew k r) (settings l x y) .replies) ≡ (Ack ∷ Ack ∷ replicate (length (l .units)) Ack)
   pub keeps : lived (anew k r) (settings l x y) .world .medium ≡ r .world .medium
   pub further : (fs : List Event) → run (r .world) fs ≡ run (lived (anew k r) (settings l x y) .world) fs
 
--- "the medium is the starting one changed by exactly the blocks whose 512 bytes all arrived"
+-- "the medium is the starting one changed by exactly the blocks whose 512 bytes all arrived", each in its wrapper's unit
 unfoldable pub MediumFromHistory : Making → List Event → Type 0
 MediumFromHistory k es = lived k es .world .medium ≡ stored (history k es .units) (k .medium) (history k es .arrived)
 
@@ -118,7 +123,7 @@ ends busReset a = isAck a
 ends (control s b) a = isAck a and isDrop (requestOf s)
 ends (bulkOut p) a = false
 ends (bulkIn b) a = false
-ends (setSwitch x) a = false
+ends (setSwitch x n) a = false
 
 -- one of 10 to 14; exactly 3, or one of these
 unfoldable pub isRefusal : Answer → Bool
@@ -132,7 +137,7 @@ shutAt busReset a = true
 shutAt (control s b) a = true
 shutAt (bulkOut p) a = isShut a
 shutAt (bulkIn b) a = isShut a
-shutAt (setSwitch x) a = true
+shutAt (setSwitch x n) a = true
 
 -- Whether an acked drop has come, and whether each bulk event was answered so.
 pub record Watch : Type 0 where

@@ -1,4 +1,4 @@
--- Number 10: when a record and its table fit together (document 01, "Numbers that come back"; document 02, A4: the switch). The part block is free.
+-- Number 10: when a record and its table fit together (document 01, "Numbers that come back"; document 02, A4 and A7). The part block is free.
 use Prim.Native.Nat.{ℕ, _+_, _*_, _%_}
 use mathlib.Core.Bool.{Bool, true, false, not}
 use lib.Dec.{leb, ltb, eqb}
@@ -64,16 +64,9 @@ stageFits blocks (DataIn place left) announced residue = inFits (blockSize * blo
 stageFits blocks (ReplyIn reply place left) announced residue = inFits (replySize (kindOf reply)) place left announced residue
 stageFits blocks (StatusDue status) announced residue = leb residue announced
 
--- A transfer of blocks is of a unit in the table.
-unfoldable pub lunFits : Stage → ℕ → Table → Bool
-lunFits Ready n us = true
-lunFits (DataOut block left held) n us = inTable n us
-lunFits (DataIn place left) n us = inTable n us
-lunFits (ReplyIn reply place left) n us = true
-lunFits (StatusDue status) n us = true
-
+-- The unit of the command in hand, which the record keeps, is in the table (document 02, A7); where none is, it is 0.
 unfoldable pub taskFits : Table → Task → Bool
-taskFits us t = lunFits (t .stage) (t .lun) us and stageFits (unitAt us (t .lun) .blocks) (t .stage) (t .announced) (t .residue)
+taskFits us t = inTable (t .lun) us and stageFits (unitAt us (t .lun) .blocks) (t .stage) (t .announced) (t .residue)
 
 unfoldable pub fits : Identity → State → Table → Bool
 fits i s us =

@@ -18,4 +18,6 @@ pub mod Sent
 pub mod Sheet
 pub mod RefusedBlock
 pub mod Switch
+pub mod SeveralUnits
+pub mod Isolation
 pub mod Witness

@@ -16,7 +16,7 @@ use Rattle.machine.specs.Units.{unitAt}
 use Rattle.machine.specs.World.{World}
 use Rattle.machine.specs.Machine.{Event, busReset, control, bulkOut, step}
 use Rattle.machine.specs.Tally.{Making}
-use Rattle.machine.specs.Claim.{setup, lived}
+use Rattle.machine.specs.Claim.{setup, Makes, lived}
 use Rattle.machine.specs.Beside.{Accepts}
 use Rattle.machine.specs.Sheet.{Exchange, Row, row, testUnitReady, onBlocks, answered, buffer, configure, command, status, senses, outsideData, Hold}
 
@@ -39,7 +39,7 @@ pub record Carries (w : World) : Type 0 where
       → carries (unitAt (w .units) (w .dev .state .link .task .lun) .blocks) n ≡ true
 
 abbrev pub BlocksCarried : Type 0
-BlocksCarried = (k : Making) (es : List Event) → Carries (lived k es .world)
+BlocksCarried = (k : Making) → Makes k → (es : List Event) → Carries (lived k es .world)
 
 -- ---- examples on the bench sheet's 128 blocks, as rows of its kind
 

@@ -1,5 +1,5 @@
 -- Document 01's "Bench sheet": the rows marked *, as one table and one claim. Proved in proofs/Sheet.antt.
-use Prim.Native.Nat.{ℕ, _-_}
+use Prim.Native.Nat.{ℕ, _+_, _*_, _-_}
 use Prim.Native.String.{String}
 use mathlib.Core.Path.{_≡_}
 use mathlib.Core.List.{List, [], _∷_, _++_}
@@ -7,9 +7,11 @@ use lib.ListN.{length, take, replicate}
 use Rattle.wire.specs.Numbers.{littleBytes, bigBytes}
 use Rattle.wire.specs.Slices.{zeros}
 use Rattle.wire.specs.Texts.{ascii}
+use Rattle.scsi.specs.Sense.{noSense}
 use Rattle.usb.specs.Descriptor.{utf16}
 use Rattle.usb.specs.declared.descriptor.Identity.{Identity}
 use Rattle.machine.specs.Answer.{numberOf, countOf}
+use Rattle.machine.specs.Units.{blockSize, Table, unit, total}
 use Rattle.machine.specs.Making.{make}
 use Rattle.machine.specs.World.{world}
 use Rattle.machine.specs.Machine.{Event, control, bulkOut, bulkIn, Seen, run}
@@ -179,9 +181,14 @@ sheet =
 
 -- ---- the claim
 
--- "128 blocks unless said."
-abbrev pub medium : List ℕ
-medium = zeros 65536
+-- A table of units of these sizes, their parts following on from a block.
+unfoldable pub parts : ℕ → List ℕ → Table
+parts n [] = []
+parts n (size ∷ sizes) = unit n size noSense 0 ∷ parts (n + size) sizes
+
+-- "128 blocks unless said.": one unit
+abbrev pub blocks128 : Table
+blocks128 = parts 0 (128 ∷ [])
 
 abbrev pub identity : ℕ → Identity
 identity collector = record { number = collector; vendor = 0; product = 0; release = 0 }
@@ -203,17 +210,22 @@ pub record Outcome : Type 0 where
   pub made : ℕ
   pub replies : List Reply
 
-unfoldable pub outcome : Row → Outcome
-outcome r =
-    let k = make (identity (r .collector)) medium in
-    record { made = numberOf (k .answer); replies = told (run (world (k .dev) (k .units) medium) (events (r .exchanges)) .replies) }
+-- Over a table of units, and a medium of zeros for them.
+unfoldable pub outcome : Table → Row → Outcome
+outcome us r =
+    let m = zeros (blockSize * total us) in
+    let k = make (identity (r .collector)) us m in
+    record { made = numberOf (k .answer); replies = told (run (world (k .dev) (k .units) m) (events (r .exchanges)) .replies) }
 
 unfoldable pub wanted : Row → Outcome
 wanted r = record { made = r .made; replies = due (r .exchanges) }
 
-unfoldable pub Hold : List Row → Type 0
-Hold [] = Unit
-Hold (r ∷ rs) = (outcome r ≡ wanted r) × Hold rs
+unfoldable pub HoldOver : Table → List Row → Type 0
+HoldOver us [] = Unit
+HoldOver us (r ∷ rs) = (outcome us r ≡ wanted r) × HoldOver us rs
+
+abbrev pub Hold : List Row → Type 0
+Hold rs = HoldOver blocks128 rs
 
 -- Of every row comes what must come.
 unfoldable pub SheetHolds : Type 0

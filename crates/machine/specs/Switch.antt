@@ -1,4 +1,4 @@
--- The write switch (document 02, A4): the event that sets it, all others, and when a change counts. Proved in proofs/Switch.antt.
+-- The write switches (document 02, A4 and A7): the event that sets it, all others, and when a change counts. Proved in proofs/Switch.antt.
 use Prim.Native.Nat.{ℕ}
 use mathlib.Core.Path.{_≡_}
 use mathlib.Core.Bool.{Bool, true, false}
@@ -7,7 +7,7 @@ use Rattle.wire.specs.Choice.{if_then_else_, _and_}
 use Rattle.wire.specs.Slices.{zeros}
 use Rattle.machine.specs.declared.answer.Answer.the-variants.{Ack, Refused}
 use Rattle.machine.specs.declared.answer.Refusal.the-variants as refusal
-use Rattle.machine.specs.Units.{switchFits, unitAt}
+use Rattle.machine.specs.Units.{switchFits, unitAt, inTable}
 use Rattle.machine.specs.Fits.{isReady}
 use Rattle.machine.specs.World.{World, switched, Out, out}
 use Rattle.machine.specs.Machine.{Event, busReset, control, bulkOut, bulkIn, setSwitch, fitting, step}
@@ -22,25 +22,27 @@ isSwitch busReset = false
 isSwitch (control s b) = false
 isSwitch (bulkOut p) = false
 isSwitch (bulkIn b) = false
-isSwitch (setSwitch x) = true
+isSwitch (setSwitch x n) = true
 
 -- The same outcome, but for the switch.
-abbrev pub switchedOut : Out → ℕ → Out
-switchedOut o x = out (o .answer) (switched (o .world) x) (o .buffer)
+abbrev pub switchedOut : Out → ℕ → ℕ → Out
+switchedOut o x n = out (o .answer) (switched (o .world) x n) (o .buffer)
 
 pub record SwitchLaws : Type 0 where
-  -- "a fifth event sets it to either and acks", whatever the collector is at; "all else .. being number 10"
-  pub sets : (w : World) (x : ℕ) → step w (setSwitch x) ≡ (if fitting w and switchFits x then out Ack (switched w x) [] else out (Refused refusal.Record) w [])
+  -- "a fifth event sets it to either and acks", whatever the collector is at; "all else .. being number 10"; "beyond the table: 18, checked last" (A7)
+  pub sets : (w : World) (x n : ℕ)
+      → step w (setSwitch x n)
+      ≡ (if fitting w and switchFits x then (if inTable n (w .units) then out Ack (switched w x n) [] else out (Refused refusal.Unit) w []) else out (Refused refusal.Record) w [])
   -- "No reset of any kind moves the switch.": no other event does.
   pub kept : (w : World) (e : Event) → isSwitch e ≡ false → (n : ℕ) → unitAt (step w e .world .units) n .switch ≡ unitAt (w .units) n .switch
   -- "A change during a command counts from the next wrapper.": with a command in hand, its status included, each event is answered as without the change.
-  pub later : (w : World) (x : ℕ) (e : Event) → fitting w ≡ true → switchFits x ≡ true → isReady (w .dev .state .link .task .stage) ≡ false → isSwitch e ≡ false
-      → step (switched w x) e ≡ switchedOut (step w e) x
+  pub later : (w : World) (x n : ℕ) (e : Event) → fitting w ≡ true → switchFits x ≡ true → isReady (w .dev .state .link .task .stage) ≡ false → isSwitch e ≡ false
+      → step (switched w x n) e ≡ switchedOut (step w e) x n
 
 -- ---- examples on the bench sheet's 128 blocks, as rows of its kind
 
 unfoldable pub turn : ℕ → Exchange
-turn x = answered (setSwitch x) 1 []
+turn x = answered (setSwitch x 0) 1 []
 
 abbrev pub opened : Exchange
 opened = turn 0
@@ -92,7 +94,7 @@ examples =
     ∷ row 42 1 (closed ∷ configure ∷ fails)
     ∷ row 42 1 (configure ∷ sent [] 3 ∷ closed ∷ answered (control (setup 0x21 0xFF 0 0) buffer) 1 [] ∷ cleared 0x81 ∷ cleared 0x02 ∷ fails)
     -- another position
-    ∷ row 42 1 (configure ∷ answered (setSwitch 2) 10 [] ∷ closed ∷ answered (setSwitch 255) 10 [] ∷ fails)
+    ∷ row 42 1 (configure ∷ answered (setSwitch 2 0) 10 [] ∷ closed ∷ answered (setSwitch 255 0) 10 [] ∷ fails)
     ∷ []
 
 abbrev pub ExamplesHold : Type 0

@@ -1,4 +1,4 @@
--- What a history says (document 01, "Words of demand 3"; document 02, A4): the tally of arrived blocks, and address, configuration and switch as last set.
+-- What a history says (document 01, "Words of demand 3"; document 02, A4 and A7): the tally of arrived blocks, and address, configuration and switches as last set.
 -- An observer that is fed the making, the events and the answers, and nothing else.
 use Prim.Native.Nat.{ℕ, _+_, _*_, _-_}
 use mathlib.Core.Bool.{Bool, true, false, not}
@@ -19,15 +19,15 @@ use Rattle.machine.specs.declared.wrapper.Wrapper.{Wrapper}
 use Rattle.machine.specs.declared.wrapper.Wrapper.the-variants.{Broken, Good}
 use Rattle.machine.specs.declared.answer.Answer.{Answer}
 use Rattle.machine.specs.declared.answer.Answer.the-variants.{Data, Ack, Nak, Stall, Silent, Refused}
-use Rattle.machine.specs.Units.{blockSize, Table, unitAt, switchedTo}
-use Rattle.machine.specs.Making.{make}
+use Rattle.machine.specs.Units.{blockSize, Table, unitAt, switchedTo, asMade}
 use Rattle.machine.specs.Wrapper.{wrapperOf}
 use Rattle.machine.specs.Bulk.{packetSize}
 use Rattle.machine.specs.Machine.{Event, busReset, control, bulkOut, bulkIn, setSwitch}
 
--- What a collector is made of.
+-- What a collector is made of, the table as it is lent.
 pub record Making : Type 0 where
   pub identity : Identity
+  pub units : Table
   pub medium : List ℕ
 
 -- A block that arrived: its unit, its number there and its 512 bytes.
@@ -45,7 +45,7 @@ pub record Log : Type 0 where
   pub tally : Tally
   pub address : ℕ
   pub configured : Bool
-  -- the table as made, but for the switch: "the tally takes its position from the last acked such event, else as made" (document 02, A4)
+  -- the table as made, but for the switches: each as "the last acked such event" for its unit set it, "else as made" (document 02, A4 and A7)
   pub units : Table
   pub arrived : List Block
 
@@ -54,7 +54,7 @@ log t a c us bs = record { tally = t; address = a; configured = c; units = us; a
 
 -- "At first no write is under way." "Configuration and address are those last set by an acked request since making or the last bus reset, else 0."
 abbrev pub start : Making → Log
-start k = log idle 0 false (make (k .identity) (k .medium) .units) []
+start k = log idle 0 false (asMade (k .units)) []
 
 -- ---- an acked packet
 
@@ -109,7 +109,7 @@ heeded l busReset = log idle 0 false (l .units) (l .arrived)
 heeded l (control s b) = heard (requestOf s) l
 heeded l (bulkOut p) = taken (l .tally) p l
 heeded l (bulkIn b) = l
-heeded l (setSwitch x) = log (l .tally) (l .address) (l .configured) (switchedTo (l .units) x) (l .arrived)
+heeded l (setSwitch x n) = log (l .tally) (l .address) (l .configured) (switchedTo (l .units) x n) (l .arrived)
 
 unfoldable pub isAck : Answer → Bool
 isAck (Data n) = false

@@ -10,7 +10,7 @@ use Rattle.scsi.specs.Sense.{noSense}
 use Rattle.scsi.specs.declared.sense.Sense.{Sense}
 use Rattle.machine.specs.declared.record.LogicalUnit.{LogicalUnit}
 
--- "1 to 1,048,576 blocks in a lent medium" (document 01, amended by document 02, A5), of 512 bytes each
+-- "1 to 1,048,576 blocks" (document 01, amended by document 02, A5), of 512 bytes each; "the limit holds for each" unit (A7)
 abbrev pub mostBlocks : ℕ
 mostBlocks = 1048576
 
@@ -57,9 +57,9 @@ isProtected u = eqb (u .switch) 1
 unfoldable pub withSwitch : LogicalUnit → ℕ → LogicalUnit
 withSwitch u x = unit (u .first) (u .blocks) (u .sense) x
 
--- Of unit 0, the one that a collector has.
-unfoldable pub switchedTo : Table → ℕ → Table
-switchedTo us x = set us 0 (withSwitch (unitAt us 0) x)
+-- The switch of one unit; no other unit changes.
+unfoldable pub switchedTo : Table → ℕ → ℕ → Table
+switchedTo us x n = set us n (withSwitch (unitAt us n) x)
 
 -- The table as a making leaves one of these parts: every sense zero, every switch open.
 abbrev pub unused : LogicalUnit → LogicalUnit

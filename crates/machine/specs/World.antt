@@ -29,9 +29,9 @@ inState w s = world (withState (w .dev) s) (w .units) (w .medium)
 unfoldable pub dropped : World → ℕ → Bool → Bool → Bool → World
 dropped w a c hi ho = world (device (w .dev .identity) (droppedState a c hi ho) (zeros blockSize)) (cleared (w .units)) (w .medium)
 
--- "a fifth event sets it to either" (document 02, A4)
-abbrev pub switched : World → ℕ → World
-switched w x = world (w .dev) (switchedTo (w .units) x) (w .medium)
+-- "a fifth event sets it to either" (document 02, A4): of the unit that it names (A7)
+abbrev pub switched : World → ℕ → ℕ → World
+switched w x n = world (w .dev) (switchedTo (w .units) x n) (w .medium)
 
 -- All that an event leaves: its answer, the world, and the buffer that it lent, empty where it lends none.
 pub record Out : Type 0 where

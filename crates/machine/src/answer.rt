@@ -12,9 +12,9 @@ pub enum Answer {
 }
 
 pub enum Refusal {
-    // The record does not fit together.
+    // The record and its table do not fit together.
     Record,
-    // The medium is empty, not a multiple of 512, too large, or not of the record's size.
+    // The medium has not as many bytes as the units' blocks together.
     Medium,
     // The answer buffer is under 64 bytes.
     Buffer,
@@ -24,4 +24,6 @@ pub enum Refusal {
     Setup,
     // The collector number has more than twelve digits.
     Number,
+    // The unit of the switch event is beyond the table.
+    Unit,
 }

@@ -9,6 +9,7 @@ pub struct Checks {
     pub packet: bool,
     pub setup: bool,
     pub configured: bool,
+    pub unit: bool,
 }
 
 // The event goes on, or ends with this answer.

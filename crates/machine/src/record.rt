@@ -5,10 +5,12 @@ use scsi::reply::Reply;
 use scsi::sense::Sense;
 use usb::descriptor::Identity;
 
-// The largest medium, in blocks of 512 bytes (document 02, A5). It has 2^29 bytes, so that a place in it is a u32.
+// The largest unit, in blocks of 512 bytes (document 02, A5). It has 2^29 bytes, so that a place in it is a u32.
 pub const MOST_BLOCKS: u32 = 1_048_576;
 
 // All that belongs to one logical unit: its part of the medium, from its first block on, its sense and its write switch.
+// C lends a table of these very structs.
+#[repr(C)]
 pub struct LogicalUnit {
     pub first: u32,
     pub blocks: u32,

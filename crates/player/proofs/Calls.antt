@@ -22,7 +22,7 @@ use contract.Monad.{Fun, fact}
 use types.Kit.{Given, Item, ‵, raw, _⊛_, mean, some, later, Post, runs, lands, Seq, _$_, _∵_, !, qed, by, move, drop as forgo, use0, use1, use2, split, join, pick, regoal, fjoin, frame, await, done}
 use types.Run.{Opds}
 use sound.WpLaws.{FmC}
-use denote.RattleType.{RattleType, owns}
+use denote.RattleType.{RattleType}
 use denote.Laws.{Is, shows}
 use denote.Plain.{uint-makes}
 use denote.Builtin.{u8, usize}
@@ -111,8 +111,8 @@ module _ {M : Type 1} (𝓤 : URA M) (H : Heap 𝓤) (A : Atoms 𝓤) (mem : Mem
   abbrev pub to-new : Lft → Share → RefT (List ℕ) → ℕ → ℕ → New .Ghost
   to-new κ q x e b = (((κ, tt), (q, tt), tt, (x, (e, (b, tt))), (bytes-val x ∷ [], (vint w64 e ∷ [], (vint w64 b ∷ [], tt)))), tt)
 
-  abbrev pub to-next : Lft → Share → Head → Next .Ghost
-  to-next κ q h = (((κ, tt), (q, tt), tt, (h, tt), (T′.lowered h ∷ [], tt)), tt)
+  abbrev pub to-next : Lft → Share → Head → ℕ → Next .Ghost
+  to-next κ q h u = (((κ, tt), (q, tt), tt, (h, (u, tt)), (T′.lowered h ∷ [], (vint w64 u ∷ [], tt))), tt)
 
   abbrev pub to-moved : Lft → Share → Head → Reading → Moved .Ghost
   to-moved κ q h r = (((κ, tt), (q, tt), tt, (h, (r, tt)), (T′.lowered h ∷ [], (read-val r ∷ [], tt))), tt)
@@ -136,6 +136,9 @@ module _ {M : Type 1} (𝓤 : URA M) (H : Heap 𝓤) (A : Atoms 𝓤) (W : Given
   reading-alone : (r : Reading) → Is S.the-row r (read-val r ∷ []) → ent 𝓤 (emp 𝓤) (sem 𝓤 H A (fsep (S.the-row .own r (read-val r ∷ [])) ftrue))
   reading-alone r is = qed W [] ∵ nothing ! $ owned ! S.the-row (Is S.the-row) (LL.makes S.the-type S′.the-plain 𝓤 H A) r _ is $ fjoin ! $ done !
 
+  number-alone : (u : ℕ) → u < 2 ^ 64 → ent 𝓤 (emp 𝓤) (sem 𝓤 H A (fsep (usize .own u (vint w64 u ∷ [])) ftrue))
+  number-alone u fu = qed W [] ∵ nothing ! $ owned ! usize (Is usize) (uint-makes 𝓤 H A W w64) u _ (refl, fu) $ fjoin ! $ done !
+
   numbers-alone : (e b : ℕ) → e < 2 ^ 64 → b < 2 ^ 64 → ent 𝓤 (emp 𝓤) (sem 𝓤 H A (fsep (usize .own e (vint w64 e ∷ [])) (fsep (usize .own b (vint w64 b ∷ [])) ftrue)))
   numbers-alone e b fe fb =
       qed W [] ∵ nothing ! $ owned ! usize (Is usize) (uint-makes 𝓤 H A W w64) b _ (refl, fb) $ fjoin ! $ owned ! usize (Is usize) (uint-makes 𝓤 H A W w64) e _ (refl, fe) $ fjoin ! $ done !
@@ -154,17 +157,18 @@ module _ {M : Type 1} {𝓤 : URA M} {H : Heap 𝓤} {A : Atoms 𝓤} {K : Type 
       move t (1 ∷ []) $ forgo t $ use1 W (‵ (flft κ q) ⊛ ‵ ftrue) (id⊢ 𝓤 _) $ split t $ move t (1 ∷ []) $ forgo t $
       regoal t (λ (g : Head). lands C Λ E d (T′.lowered g) rest p) same refl $ k (subst (λ (g : Head). Is (B κ) g (T′.lowered g ∷ [])) same is))
 
-  pub reads-head : K → (mem : Memory → SProp 𝓤) (run : Routine → Fun 𝓤) → FmC 𝓤 H (W .laws) C → Triple 𝓤 (C #next) (Next 𝓤 H A mem run) → (κ : Lft) (q : Share) (x : RefT (List ℕ)) (e b : ℕ) → e < 2 ^ 64 → b < 2 ^ 64
-      → Opds K W (raw (Next 𝓤 H A mem run .pre (to-next 𝓤 H A mem run κ q (head-at x e b))) ∷ ‵ (Own κ x) ∷ Γ) E xs (T′.lowered (head-at x e b) ∷ [])
-      → ((r : Reading) → r ≡ readAt (x .now) e b → Is S.the-row r (read-val r ∷ []) → Seq K W (‵ (flft κ q) ∷ ‵ (Own κ x) ∷ Γ) (lands C Λ E d (read-val r) rest p))
+  pub reads-head : K → (mem : Memory → SProp 𝓤) (run : Routine → Fun 𝓤) → FmC 𝓤 H (W .laws) C → Triple 𝓤 (C #next) (Next 𝓤 H A mem run) → (κ : Lft) (q : Share) (x : RefT (List ℕ)) (e b u : ℕ) → e < 2 ^ 64 → b < 2 ^ 64 → u < 2 ^ 64
+      → Opds K W (raw (Next 𝓤 H A mem run .pre (to-next 𝓤 H A mem run κ q (head-at x e b) u)) ∷ ‵ (Own κ x) ∷ Γ) E xs (T′.lowered (head-at x e b) ∷ vint w64 u ∷ [])
+      → ((r : Reading) → r ≡ readAt u (x .now) e b → Is S.the-row r (read-val r ∷ []) → Seq K W (‵ (flft κ q) ∷ ‵ (Own κ x) ∷ Γ) (lands C Λ E d (read-val r) rest p))
       → Seq K W (‵ (flft κ q) ∷ ‵ (Own κ x) ∷ Γ) (runs C Λ E (seq (call #next xs d) rest) p)
-  reads-head t mem run fm known κ q x e b fe fb os k =
+  reads-head t mem run fm known κ q x e b u fe fb fu os k =
       let h = head-at x e b in
       let own = B κ .own h (T′.lowered h ∷ []) in
-      use2 W ((raw (toks 𝓤 H A W κ q x) ⊛ ‵ (fsep own ftrue)) ⊛ ‵ (Own κ x)) (lends 𝓤 H A W κ q x own ftrue (owns-head 𝓤 H A W κ q x e b fe fb) (id⊢ 𝓤 _)) $ split t $ split t $
-      calls-for t fm (Next 𝓤 H A mem run) known (to-next 𝓤 H A mem run κ q h) (toks 𝓤 H A W κ q x) (fsep own ftrue) S.the-type S′.the-laws (Lasts next.ended (κ, tt) (h, tt)) (lasts next.ended (κ, tt) (h, tt))
-      (λ r z. numbered r ≡ numbered (readAt (x .now) e b)) (id⊢ 𝓤 _) (λ w. id⊢ 𝓤 _) os (λ r z said is.
-      move t (1 ∷ []) $ forgo t $ use1 W (‵ (flft κ q) ⊛ ‵ ftrue) (id⊢ 𝓤 _) $ split t $ move t (1 ∷ []) $ forgo t $ k r (same-reading r (readAt (x .now) e b) said) is)
+      let others = fsep (usize .own u (vint w64 u ∷ [])) ftrue in
+      use2 W ((raw (toks 𝓤 H A W κ q x) ⊛ ‵ (fsep own others)) ⊛ ‵ (Own κ x)) (lends 𝓤 H A W κ q x own others (owns-head 𝓤 H A W κ q x e b fe fb) (number-alone 𝓤 H A W κ q x u fu)) $ split t $ split t $
+      calls-for t fm (Next 𝓤 H A mem run) known (to-next 𝓤 H A mem run κ q h u) (toks 𝓤 H A W κ q x) (fsep own others) S.the-type S′.the-laws (Lasts next.ended (κ, tt) (h, (u, tt))) (lasts next.ended (κ, tt) (h, (u, tt)))
+      (λ r z. numbered r ≡ numbered (readAt u (x .now) e b)) (id⊢ 𝓤 _) (λ w. id⊢ 𝓤 _) os (λ r z said is.
+      move t (1 ∷ []) $ forgo t $ use1 W (‵ (flft κ q) ⊛ ‵ ftrue) (id⊢ 𝓤 _) $ split t $ move t (1 ∷ []) $ forgo t $ k r (same-reading r (readAt u (x .now) e b) said) is)
 
   pub moves-head : K → (mem : Memory → SProp 𝓤) (run : Routine → Fun 𝓤) → FmC 𝓤 H (W .laws) C → Triple 𝓤 (C #moved) (Moved 𝓤 H A mem run) → (κ : Lft) (q : Share) (x : RefT (List ℕ)) (e b : ℕ) → e < 2 ^ 64 → b < 2 ^ 64
       → (r : Reading) → Is S.the-row r (read-val r ∷ [])

@@ -31,10 +31,10 @@ use Rattle.player.proofs.turns.Turn as U
 
 -- what is required, of the recording s, so many events n, the text t₀ and the turn to start from
 abbrev pub Required : List ℕ → ℕ → List ℕ → Turn → Type 0
-Required s n t₀ start = (n ≤ 1024) × (2 + 4 * n ≤ length s) × (start .at + 207 * n ≤ length t₀) × (formed n (drop 2 s) (drop (2 + 4 * n) s) ≡ true)
+Required s n t₀ start = (n ≤ 1024) × (2 + 4 * n ≤ length s) × (start .at + 207 * n ≤ length t₀) × (formed (start .units .count) n (drop 2 s) (drop (2 + 4 * n) s) ≡ true)
 
 abbrev pub whole : List ℕ → List ℕ → ℕ → Turn → Run
-whole s m₀ n start = left-run s (worldOf start m₀) n 2 (2 + 4 * n)
+whole s m₀ n start = left-run (start .units .count) s (worldOf start m₀) n 2 (2 + 4 * n)
 
 pub record State (s m₀ t₀ : List ℕ) (n : ℕ) (start : Turn) : Type 0 where
   pub turn : Turn
@@ -48,7 +48,7 @@ pub record State (s m₀ t₀ : List ℕ) (n : ℕ) (start : Turn) : Type 0 wher
   pub entry-fits : entry < 2 ^ 64
   pub body-fits : body < 2 ^ 64
   pub same : length medium ≡ length m₀
-  pub so-far : So-far s (whole s m₀ n start) t₀ (start .at) (worldOf turn medium) text (turn .at) (n - done) entry body (done + 1)
+  pub so-far : So-far (start .units .count) s (whole s m₀ n start) t₀ (start .at) (worldOf turn medium) text (turn .at) (n - done) entry body (done + 1)
 
 module _ (s m₀ t₀ : List ℕ) (n : ℕ) (start : Turn) where
   abbrev St : Type 0
@@ -72,7 +72,7 @@ module _ (s m₀ t₀ : List ℕ) (n : ℕ) (start : Turn) where
         entry-fits = lit< tt;
         body-fits = fits;
         same = refl;
-        so-far = subst (λ (k : ℕ). So-far s (whole s m₀ n start) t₀ (start .at) (worldOf start m₀) t₀ (start .at) k 2 (2 + 4 * n) 1) all (record {
+        so-far = subst (λ (k : ℕ). So-far (start .units .count) s (whole s m₀ n start) t₀ (start .at) (worldOf start m₀) t₀ (start .at) k 2 (2 + 4 * n) 1) all (record {
           place = record { table = omega arith; bodies = omega arith };
           good = r .3;
           room = space;
@@ -84,12 +84,12 @@ module _ (s m₀ t₀ : List ℕ) (n : ℕ) (start : Turn) where
         });
       }
 
-  module _ (st : St) (less : st .done < n) (r : Reading) (found : r ≡ readAt s (st .entry) (st .body)) where
+  module _ (st : St) (less : st .done < n) (r : Reading) (found : r ≡ readAt (start .units .count) s (st .entry) (st .body)) where
     pub asks : (st .body + r .len ≤ length s) × (st .done < 1024) × (st .turn .at + 207 ≤ length (st .text))
     asks =
         let w = st .so-far in
         let left : 0 < n - st .done = omega arith in
-        let v = began s (whole s m₀ n start) t₀ (start .at) (worldOf (st .turn) (st .medium)) (st .text) (st .turn .at) (n - st .done) (st .entry) (st .body) (st .done + 1) r w found left .within in
+        let v = began (start .units .count) s (whole s m₀ n start) t₀ (start .at) (worldOf (st .turn) (st .medium)) (st .text) (st .turn .at) (n - st .done) (st .entry) (st .body) (st .done + 1) r w found left .within in
         let c = w .counts in
         let room = w .room in
         let l = wrote-length _ _ _ _ _ (w .wrote) in
@@ -113,15 +113,15 @@ module _ (s m₀ t₀ : List ℕ) (n : ℕ) (start : Turn) where
           entry-fits = parts .1 .1 .0 .1;
           body-fits = parts .1 .1 .1 .0 .1;
           same = same ∙ st .same;
-          so-far = subst (λ (k : ℕ). So-far s (whole s m₀ n start) t₀ (start .at) (worldOf x m) t (x .at) k (r .entry) (r .body) (st .done + 1 + 1)) one-less
-              (go-on s (whole s m₀ n start) t₀ (start .at) (worldOf (st .turn) (st .medium)) (st .text) (st .turn .at) (n - st .done) (st .entry) (st .body) (st .done + 1) r m t x (st .so-far) found left said);
+          so-far = subst (λ (k : ℕ). So-far (start .units .count) s (whole s m₀ n start) t₀ (start .at) (worldOf x m) t (x .at) k (r .entry) (r .body) (st .done + 1 + 1)) one-less
+              (go-on (start .units .count) s (whole s m₀ n start) t₀ (start .at) (worldOf (st .turn) (st .medium)) (st .text) (st .turn .at) (n - st .done) (st .entry) (st .body) (st .done + 1) r m t x (st .so-far) found left said);
         }
 
   pub finished : (st : St) → n ≤ st .done → (Wrote t₀ (start .at) (lines 1 (whole s m₀ n start .replies)) (st .text) (st .turn .at)) × (st .medium ≡ whole s m₀ n start .world .medium) × (st .turn .at ≤ length t₀)
   finished st over =
       let w = st .so-far in
       let none : n - st .done ≡ 0 = omega arith in
-      let e = ended s (whole s m₀ n start) t₀ (start .at) (worldOf (st .turn) (st .medium)) (st .text) (st .turn .at) (n - st .done) (st .entry) (st .body) (st .done + 1) w none in
+      let e = ended (start .units .count) s (whole s m₀ n start) t₀ (start .at) (worldOf (st .turn) (st .medium)) (st .text) (st .turn .at) (n - st .done) (st .entry) (st .body) (st .done + 1) w none in
       let room = w .room in
       (e .0, e .1, omega arith)
 

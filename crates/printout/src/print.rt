@@ -95,7 +95,7 @@ fn data(text: &mut [u8], at: usize, n: usize, buffer: &[u8]) -> usize
     hexes(text, listed, &buffer[..shown])
 }
 
-fn refusal_number(why: Refusal) -> usize
+pub fn refusal_number(why: Refusal) -> usize
     ensures { λ r. ⌜ r ≡ refusalNumber why ⌝ }
 {
     match why {
@@ -105,6 +105,7 @@ fn refusal_number(why: Refusal) -> usize
         Refusal::Packet => 13,
         Refusal::Setup => 14,
         Refusal::Number => 15,
+        Refusal::Unit => 18,
     }
 }
 

@@ -6,8 +6,8 @@ use lib.ListN.{length}
 use Rattle.machine.specs.Machine.{Event}
 use Rattle.recording.specs.Format.{AllRecordable, mostBytes, mostEvents, written, parse, wellFormed}
 
--- What is written is read back.
+-- What is written is read back, for every number of units.
 abbrev pub WrittenIsParsed : Type 0
 WrittenIsParsed =
-    (es : List Event) → AllRecordable es → length es ≤ mostEvents → length (written es) ≤ mostBytes
-    → parse (written es) ≡ wellFormed es
+    (units : ℕ) (es : List Event) → AllRecordable units es → length es ≤ mostEvents → length (written es) ≤ mostBytes
+    → parse units (written es) ≡ wellFormed es

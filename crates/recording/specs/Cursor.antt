@@ -1,4 +1,4 @@
--- What a reader finds at a place of a recording.
+-- What a reader finds at a place of a recording for so many units.
 use Prim.Native.Nat.{ℕ, _+_}
 use mathlib.Core.List.{List}
 use lib.Dec.{leb}
@@ -13,10 +13,10 @@ abbrev pub reading : Kind → ℕ → ℕ → ℕ → Reading
 reading k n e b = record { kind = k; len = n; entry = e; body = b }
 
 -- The event whose entry stands at e and whose body starts at b, where both lie in the recording.
-unfoldable pub readAt : List ℕ → ℕ → ℕ → Reading
-readAt s e b =
+unfoldable pub readAt : ℕ → List ℕ → ℕ → ℕ → Reading
+readAt units s e b =
     if leb (e + 4) (length s) and leb (b + lengthIn (drop e s)) (length s)
-    then reading (kindIn (drop e s) (drop b s)) (lengthIn (drop e s)) (e + 4) (b + lengthIn (drop e s))
+    then reading (kindIn units (drop e s) (drop b s)) (lengthIn (drop e s)) (e + 4) (b + lengthIn (drop e s))
     else reading Malformed 0 e b
 
 -- The papers' number for each kind ("Kinds: 1 bus reset .., 2 control .., 3 bulk-out .., 4 bulk-in ask ..", "Anything

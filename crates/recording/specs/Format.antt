@@ -1,9 +1,9 @@
--- A recording's format (document 01, "The bench recording"; document 02, A4).
-use Prim.Native.Nat.{ℕ, zero, suc, _+_, _*_, _≤_}
+-- A recording's format (document 01, "The bench recording"; document 02, A4 and A7), for a collector of so many units.
+use Prim.Native.Nat.{ℕ, zero, suc, _+_, _*_, _≤_, _<_}
 use mathlib.Core.Path.{_≡_}
 use mathlib.Core.Bool.{Bool, true, false}
 use mathlib.Core.List.{List, [], _∷_, _++_}
-use lib.Dec.{leb, eqb}
+use lib.Dec.{leb, ltb, eqb}
 use lib.ListN.{length, take, drop}
 use Rattle.wire.specs.Choice.{if_then_else_, _and_}
 use Rattle.wire.specs.Slices.{byteAt, bytesAt, zeros}
@@ -23,15 +23,16 @@ mostEvents = 1024
 -- ---- an entry of the table of contents: "four bytes an event (kind, 00, length)"
 
 -- "Kinds: 1 bus reset (length 0), 2 control (8), 3 bulk-out (0 to 64), 4 bulk-in ask (0). Anything else .. is 16";
--- "The bench recording gains kind 5, with one body byte 00 or 01" (document 02, A4): the last number is the body's first byte.
-unfoldable pub kindOf : ℕ → ℕ → ℕ → ℕ → Kind
-kindOf first second n position =
+-- "The bench recording gains kind 5, with one body byte 00 or 01" (document 02, A4); "the switch event names its unit in a second body byte (beyond the table: ..; on the
+-- bench 16)" (A7): the position and the unit are the body's first two bytes, the last number says how many units there are.
+unfoldable pub kindOf : ℕ → ℕ → ℕ → ℕ → ℕ → ℕ → Kind
+kindOf first second n position unit units =
     if eqb second 0
     then (if eqb first 1 then (if eqb n 0 then Reset else Malformed)
     else (if eqb first 2 then (if eqb n 8 then Control else Malformed)
     else (if eqb first 3 then (if leb n 64 then Out else Malformed)
     else (if eqb first 4 then (if eqb n 0 then Ask else Malformed)
-    else (if eqb first 5 then (if eqb n 1 and switchFits position then Switch else Malformed)
+    else (if eqb first 5 then (if eqb n 2 and switchFits position and ltb unit units then Switch else Malformed)
     else Malformed)))))
     else Malformed
 
@@ -47,18 +48,18 @@ isKind Malformed = false
 abbrev pub lengthIn : List ℕ → ℕ
 lengthIn table = little (bytesAt 2 2 table)
 
-abbrev pub kindIn : List ℕ → List ℕ → Kind
-kindIn table bodies = kindOf (byteAt table 0) (byteAt table 1) (lengthIn table) (byteAt bodies 0)
+abbrev pub kindIn : ℕ → List ℕ → List ℕ → Kind
+kindIn units table bodies = kindOf (byteAt table 0) (byteAt table 1) (lengthIn table) (byteAt bodies 0) (byteAt bodies 1) units
 
 -- ---- the whole
 
 -- So many entries of a table, and the bodies in order, nothing left over.
-unfoldable pub formed : ℕ → List ℕ → List ℕ → Bool
-formed zero table bodies = eqb (length bodies) 0
-formed (suc n) table bodies =
-    isKind (kindIn table bodies)
+unfoldable pub formed : ℕ → ℕ → List ℕ → List ℕ → Bool
+formed units zero table bodies = eqb (length bodies) 0
+formed units (suc n) table bodies =
+    isKind (kindIn units table bodies)
     and leb (lengthIn table) (length bodies)
-    and formed n (drop 4 table) (drop (lengthIn table) bodies)
+    and formed units n (drop 4 table) (drop (lengthIn table) bodies)
 
 -- The event of a kind and a body. Control requests and asks are lent 64 zeros, for each event anew. No event has the
 -- kind Malformed: what it gives here is never looked at.
@@ -70,13 +71,13 @@ eventOf Reset s = busReset
 eventOf Control s = control s lentBuffer
 eventOf Out s = bulkOut s
 eventOf Ask s = bulkIn lentBuffer
-eventOf Switch s = setSwitch (byteAt s 0)
+eventOf Switch s = setSwitch (byteAt s 0) (byteAt s 1)
 eventOf Malformed s = busReset
 
-unfoldable pub eventsIn : ℕ → List ℕ → List ℕ → List Event
-eventsIn zero table bodies = []
-eventsIn (suc n) table bodies =
-    eventOf (kindIn table bodies) (take (lengthIn table) bodies) ∷ eventsIn n (drop 4 table) (drop (lengthIn table) bodies)
+unfoldable pub eventsIn : ℕ → ℕ → List ℕ → List ℕ → List Event
+eventsIn units zero table bodies = []
+eventsIn units (suc n) table bodies =
+    eventOf (kindIn units table bodies) (take (lengthIn table) bodies) ∷ eventsIn units n (drop 4 table) (drop (lengthIn table) bodies)
 
 abbrev pub countOf : List ℕ → ℕ
 countOf s = little (bytesAt 2 0 s)
@@ -87,20 +88,20 @@ tableOf s = drop 2 s
 abbrev pub bodiesOf : List ℕ → List ℕ
 bodiesOf s = drop (2 + 4 * countOf s) s
 
-unfoldable pub isFormed : List ℕ → Bool
-isFormed s =
+unfoldable pub isFormed : ℕ → List ℕ → Bool
+isFormed units s =
     leb 2 (length s)
     and leb (length s) mostBytes
     and leb (countOf s) mostEvents
     and leb (2 + 4 * countOf s) (length s)
-    and formed (countOf s) (tableOf s) (bodiesOf s)
+    and formed units (countOf s) (tableOf s) (bodiesOf s)
 
 pub data Parsed : Type 0 where
   malformed : Parsed
   wellFormed : List Event → Parsed
 
-unfoldable pub parse : List ℕ → Parsed
-parse s = if isFormed s then wellFormed (eventsIn (countOf s) (tableOf s) (bodiesOf s)) else malformed
+unfoldable pub parse : ℕ → List ℕ → Parsed
+parse units s = if isFormed units s then wellFormed (eventsIn units (countOf s) (tableOf s) (bodiesOf s)) else malformed
 
 -- ---- writing
 
@@ -109,14 +110,14 @@ numberOfKind busReset = 1
 numberOfKind (control s b) = 2
 numberOfKind (bulkOut p) = 3
 numberOfKind (bulkIn b) = 4
-numberOfKind (setSwitch x) = 5
+numberOfKind (setSwitch x n) = 5
 
 abbrev pub bodyOf : Event → List ℕ
 bodyOf busReset = []
 bodyOf (control s b) = s
 bodyOf (bulkOut p) = p
 bodyOf (bulkIn b) = []
-bodyOf (setSwitch x) = x ∷ []
+bodyOf (setSwitch x n) = x ∷ n ∷ []
 
 unfoldable pub table : List Event → List ℕ
 table [] = []
@@ -129,14 +130,14 @@ bodies (e ∷ es) = bodyOf e ++ bodies es
 unfoldable pub written : List Event → List ℕ
 written es = littleBytes 2 (length es) ++ table es ++ bodies es
 
--- What a recording can hold: a setup of 8 bytes, a packet of at most 64, a position that the switch has, and the player's lent buffer.
-abbrev pub Recordable : Event → Type 0
-Recordable busReset = Unit
-Recordable (control s b) = (length s ≡ 8) × (b ≡ lentBuffer)
-Recordable (bulkOut p) = length p ≤ 64
-Recordable (bulkIn b) = b ≡ lentBuffer
-Recordable (setSwitch x) = switchFits x ≡ true
+-- What a recording can hold: a setup of 8 bytes, a packet of at most 64, a position that the switch has and one of so many units, and the player's lent buffer.
+abbrev pub Recordable : ℕ → Event → Type 0
+Recordable units busReset = Unit
+Recordable units (control s b) = (length s ≡ 8) × (b ≡ lentBuffer)
+Recordable units (bulkOut p) = length p ≤ 64
+Recordable units (bulkIn b) = b ≡ lentBuffer
+Recordable units (setSwitch x n) = (switchFits x ≡ true) × (n < units)
 
-unfoldable pub AllRecordable : List Event → Type 0
-AllRecordable [] = Unit
-AllRecordable (e ∷ es) = Recordable e × AllRecordable es
+unfoldable pub AllRecordable : ℕ → List Event → Type 0
+AllRecordable units [] = Unit
+AllRecordable units (e ∷ es) = Recordable units e × AllRecordable units es

@@ -12,7 +12,7 @@ pub enum Kind {
     Out,
     Ask,
     Switch,
-    // No kind that a recording has, or a length or a position that the kind does not have.
+    // No kind that a recording has, or a length, a position or a unit that the kind does not have.
     Malformed,
 }
 
@@ -24,9 +24,10 @@ pub struct Reading {
     pub body: usize,
 }
 
-// The kind that the first two bytes of an entry and its length name, with the body's first byte: a switch's position.
-fn kind_of(first: u8, second: u8, len: usize, position: u8) -> Kind
-    ensures { λ r. ⌜ r ≡ kindOf first second len position ⌝ }
+// The kind that the first two bytes of an entry and its length name, with the body's first two bytes: a switch's position
+// and its unit, one of so many.
+fn kind_of(first: u8, second: u8, len: usize, position: u8, unit: usize, units: usize) -> Kind
+    ensures { λ r. ⌜ r ≡ kindOf first second len position unit units ⌝ }
 {
     if second != 0 {
         return Kind::Malformed;
@@ -56,10 +57,13 @@ fn kind_of(first: u8, second: u8, len: usize, position: u8) -> Kind
         return Kind::Malformed;
     }
     if first == 5 {
-        if len != 1 {
+        if len != 2 {
             return Kind::Malformed;
         }
-        if position <= 1 {
+        if 1 < position {
+            return Kind::Malformed;
+        }
+        if unit < units {
             return Kind::Switch;
         }
         return Kind::Malformed;
@@ -80,8 +84,9 @@ fn stopped(entry: usize, body: usize) -> Reading
     }
 }
 
-pub fn read_at(s: &[u8], entry: usize, body: usize) -> Reading
-    ensures { λ r. ⌜ numbered r ≡ numbered (readAt (now (s .entry)) entry body) ⌝ }
+// The event at a place, where the collector has so many units.
+pub fn read_at(s: &[u8], entry: usize, body: usize, units: usize) -> Reading
+    ensures { λ r. ⌜ numbered r ≡ numbered (readAt units (now (s .entry)) entry body) ⌝ }
 {
     if s.len() < 4 {
         return stopped(entry, body);
@@ -96,7 +101,15 @@ pub fn read_at(s: &[u8], entry: usize, body: usize) -> Reading
     if s.len() - body < len {
         return stopped(entry, body);
     }
-    let kind = kind_of(byte(s, entry), byte(s, entry + 1), len, byte(s, body));
+    let unit = byte(s, body + 1) as usize;
+    let kind = kind_of(
+        byte(s, entry),
+        byte(s, entry + 1),
+        len,
+        byte(s, body),
+        unit,
+        units,
+    );
     Reading {
         kind,
         len,

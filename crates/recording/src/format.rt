@@ -22,15 +22,15 @@ fn is_kind(kind: Kind) -> bool
 }
 
 // The table of contents from `entry` on, and the bodies from `body` on, for so many events.
-fn entries_formed(s: &[u8], count: usize) -> bool
+fn entries_formed(s: &[u8], count: usize, units: usize) -> bool
     requires { ⌜ (count ≤ 1024) × (2 + 4 * count ≤ length (now s)) ⌝ }
-    ensures { λ r. ⌜ r ≡ formed count (drop 2 (now (s .entry))) (drop (2 + 4 * count) (now (s .entry))) ⌝ }
+    ensures { λ r. ⌜ r ≡ formed units count (drop 2 (now (s .entry))) (drop (2 + 4 * count) (now (s .entry))) ⌝ }
 {
     let mut left = count;
     let mut entry = 2;
     let mut body = 2 + 4 * count;
     while 0 < left {
-        let r = read_at(s, entry, body);
+        let r = read_at(s, entry, body, units);
         let kind = r.kind;
         if !is_kind(kind) {
             return false;
@@ -49,8 +49,9 @@ pub fn count_of(s: &[u8]) -> usize
     le16(s, 0) as usize
 }
 
-pub fn is_formed(s: &[u8]) -> bool
-    ensures { λ r. ⌜ r ≡ isFormed (now (s .entry)) ⌝ }
+// For a collector of so many units.
+pub fn is_formed(s: &[u8], units: usize) -> bool
+    ensures { λ r. ⌜ r ≡ isFormed units (now (s .entry)) ⌝ }
 {
     if s.len() < 2 {
         return false;
@@ -65,5 +66,5 @@ pub fn is_formed(s: &[u8]) -> bool
     if s.len() - 2 < 4 * count {
         return false;
     }
-    entries_formed(s, count)
+    entries_formed(s, count, units)
 }

@@ -21,11 +21,11 @@ pub fn new<'a>(recording: &'a [u8], entry: usize, body: usize) -> Head<'a>
     }
 }
 
-// The event under the head, and the next place.
-pub fn next<'a>(h: Head<'a>) -> Reading
-    ensures { λ r. ⌜ numbered r ≡ numbered (readAt (now (h .entry .recording)) (h .entry .entry) (h .entry .body)) ⌝ }
+// The event under the head, where the collector has so many units, and the next place.
+pub fn next<'a>(h: Head<'a>, units: usize) -> Reading
+    ensures { λ r. ⌜ numbered r ≡ numbered (readAt units (now (h .entry .recording)) (h .entry .entry) (h .entry .body)) ⌝ }
 {
-    read_at(h.recording, h.entry, h.body)
+    read_at(h.recording, h.entry, h.body, units)
 }
 
 // The head moved on past an event that was read.

@@ -2,51 +2,52 @@
 ghost use mathlib.Core.Path.{_≡_};
 ghost use Rattle.scsi.specs.Sense.{noSense, outOfRange, isNoSense, isOutOfRange};
 
-// The number stands first: a plan holds a sense or a block's number, and the two numbers then lie in one place.
+// C sees this struct in its table of units.
+#[repr(C)]
 pub struct Sense {
-    // Of a range failure, the first block outside the unit; of any other, 0.
-    pub information: u32,
     pub key: u8,
     pub asc: u8,
     pub ascq: u8,
+    // Of a range failure, the first block outside the unit; of any other, 0.
+    pub information: u32,
 }
 
 impl Sense {
     pub const NONE: Sense = Sense {
-        information: 0,
         key: 0x00,
         asc: 0x00,
         ascq: 0x00,
+        information: 0,
     };
 
     pub const INVALID_CODE: Sense = Sense {
-        information: 0,
         key: 0x05,
         asc: 0x20,
         ascq: 0x00,
+        information: 0,
     };
 
     pub const INVALID_FIELD: Sense = Sense {
-        information: 0,
         key: 0x05,
         asc: 0x24,
         ascq: 0x00,
+        information: 0,
     };
 
     // A Write to a unit that is write protected.
     pub const WRITE_PROTECTED: Sense = Sense {
-        information: 0,
         key: 0x07,
         asc: 0x27,
         ascq: 0x00,
+        information: 0,
     };
 
     // A data-out packet of the wrong length.
     pub const DATA_PHASE: Sense = Sense {
-        information: 0,
         key: 0x0B,
         asc: 0x4B,
         ascq: 0x00,
+        information: 0,
     };
 
     // A range failure, with the first block outside the unit.
@@ -54,10 +55,10 @@ impl Sense {
         ensures { λ r. ⌜ r ≡ outOfRange block ⌝ }
     {
         Sense {
-            information: block,
             key: 0x05,
             asc: 0x21,
             ascq: 0x00,
+            information: block,
         }
     }
 

@@ -40,3 +40,7 @@ module _ (v : Verdict) (w : World) (e : Event) (h : admission v ≡ admission (i
   pub gone-on : v ≡ Passes → told (effect w e) ≡ told (step w e)
   unfolding step judged
   gone-on p = simp (goes-on v (inOrder (checks w e)) p h)
+
+  pub fits-passed : v ≡ Passes → checks w e .fits ≡ true
+  unfolding inOrder
+  fits-passed p = passed _ _ _ (goes-on v (inOrder (checks w e)) p h) .0

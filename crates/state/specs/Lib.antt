@@ -1,2 +1,2 @@
 pub mod Gates
-pub mod One
+pub mod Moving

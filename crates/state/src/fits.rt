@@ -1,34 +1,20 @@
-// Number 10: whether a record and its unit fit together. Sums and products are taken in 64 bits: a record may hold any
+// Number 10: whether a record and its table fit together. Sums and products are taken in 64 bits: a record may hold any
 // numbers.
 ghost use mathlib.Core.Path.{_≡_};
-ghost use mathlib.Core.List.{[], _∷_};
-ghost use Rattle.machine.specs.Units.{sizeFits, switchFits};
+ghost use Rattle.units.specs.Held.{tableOf};
 ghost use Rattle.machine.specs.Fits.{numberFits, isReady, idleFits, lockFits, taskFits, fits, outFits, inFits};
 use machine::record::Link;
-use machine::record::LogicalUnit;
-use machine::record::MOST_BLOCKS;
 use machine::record::Stage;
 use machine::record::State;
 use machine::record::Task;
 use scsi::reply::kind_of;
 use scsi::reply::reply_size;
+use units::table::Units;
+use units::table::is_calm;
+use units::table::laid_out;
+use units::table::switches_fit;
+use units::table::unit_at;
 use usb::descriptor::Identity;
-
-pub fn size_fits(blocks: usize) -> bool
-    ensures { λ r. ⌜ r ≡ sizeFits blocks ⌝ }
-{
-    if blocks < 1 {
-        return false;
-    }
-    blocks <= (MOST_BLOCKS as usize)
-}
-
-// Open or closed.
-pub fn switch_fits(switch: u8) -> bool
-    ensures { λ r. ⌜ r ≡ switchFits switch ⌝ }
-{
-    switch <= 1
-}
 
 // Twelve decimal digits.
 pub fn number_fits(number: u64) -> bool
@@ -57,8 +43,8 @@ fn is_ready(stage: Stage) -> bool
     }
 }
 
-fn idle_fits(state: State, unit: LogicalUnit) -> bool
-    ensures { λ r. ⌜ r ≡ idleFits state (unit ∷ []) ⌝ }
+fn idle_fits(state: State, units: Units) -> bool
+    ensures { λ r. ⌜ r ≡ idleFits state (tableOf units) ⌝ }
 {
     let configured = state.configured;
     let link = state.link;
@@ -82,8 +68,7 @@ fn idle_fits(state: State, unit: LogicalUnit) -> bool
     if locked {
         return false;
     }
-    let sense = unit.sense;
-    sense.is_none()
+    is_calm(units)
 }
 
 fn lock_fits(link: Link) -> bool
@@ -133,27 +118,26 @@ pub fn in_fits(size: u64, place: u32, left: u32, announced: u32, residue: u32) -
     residue <= announced
 }
 
-// Blocks are moved only to and from the one unit, number 0.
-fn task_fits(task: Task, unit: LogicalUnit) -> bool
-    ensures { λ r. ⌜ r ≡ taskFits (unit ∷ []) task ⌝ }
+// The command in hand is for a unit of the table.
+fn task_fits(task: Task, units: Units) -> bool
+    ensures { λ r. ⌜ r ≡ taskFits (tableOf units) task ⌝ }
 {
     let stage = task.stage;
     let lun = task.lun;
     let announced = task.announced;
     let residue = task.residue;
+    let count = units.count;
+    if count <= (lun as usize) {
+        return false;
+    }
+    let unit = unit_at(units, lun);
     let blocks = unit.blocks;
     match stage {
         Stage::Ready => true,
         Stage::DataOut { block, left, held } => {
-            if lun != 0 {
-                return false;
-            }
             out_fits(blocks, block, left, held, announced, residue)
         }
         Stage::DataIn { place, left } => {
-            if lun != 0 {
-                return false;
-            }
             in_fits(512 * (blocks as u64), place, left, announced, residue)
         }
         Stage::ReplyIn { reply, place, left } => in_fits(
@@ -167,23 +151,17 @@ fn task_fits(task: Task, unit: LogicalUnit) -> bool
     }
 }
 
-pub fn fits(identity: Identity, state: State, unit: LogicalUnit) -> bool
-    ensures { λ r. ⌜ r ≡ fits identity state (unit ∷ []) ⌝ }
+pub fn fits(identity: Identity, state: State, units: Units) -> bool
+    ensures { λ r. ⌜ r ≡ fits identity state (tableOf units) ⌝ }
 {
     let number = identity.number;
     let address = state.address;
     let link = state.link;
-    let first = unit.first;
-    let blocks = unit.blocks;
-    let switch = unit.switch;
     let task = link.task;
-    if first != 0 {
+    if !laid_out(units) {
         return false;
     }
-    if !size_fits(blocks as usize) {
-        return false;
-    }
-    if !switch_fits(switch) {
+    if !switches_fit(units) {
         return false;
     }
     if !number_fits(number) {
@@ -192,11 +170,11 @@ pub fn fits(identity: Identity, state: State, unit: LogicalUnit) -> bool
     if 0x7F < address {
         return false;
     }
-    if !idle_fits(state, unit) {
+    if !idle_fits(state, units) {
         return false;
     }
     if !lock_fits(link) {
         return false;
     }
-    task_fits(task, unit)
+    task_fits(task, units)
 }

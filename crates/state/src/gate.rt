@@ -6,14 +6,20 @@ use machine::answer::Answer;
 use machine::answer::Refusal;
 use machine::checks::Checks;
 use machine::checks::Verdict;
-use machine::record::LogicalUnit;
 use machine::record::State;
+use units::change::Change;
 
-// What an event answers, and the state and the unit that it leaves.
+// What an event answers, the state that it leaves, and what it changes in the table.
 pub struct Moved {
     pub answer: Answer,
     pub state: State,
-    pub unit: LogicalUnit,
+    pub change: Change,
+}
+
+// The same of an ask for a bulk-in packet, which never changes the table.
+pub struct Served {
+    pub answer: Answer,
+    pub state: State,
 }
 
 pub fn admit(checks: Checks) -> Verdict
@@ -25,6 +31,7 @@ pub fn admit(checks: Checks) -> Verdict
     let packet = checks.packet;
     let setup = checks.setup;
     let configured = checks.configured;
+    let unit = checks.unit;
     if !fits {
         return Verdict::Refuses(Answer::Refused {
             why: Refusal::Record,
@@ -52,6 +59,9 @@ pub fn admit(checks: Checks) -> Verdict
     }
     if !configured {
         return Verdict::Refuses(Answer::Silent);
+    }
+    if !unit {
+        return Verdict::Refuses(Answer::Refused { why: Refusal::Unit });
     }
     Verdict::Passes
 }

@@ -1,15 +1,12 @@
-// The states that events leave: each struct is built here and nowhere else. With them, what a unit's switch means.
+// The states that events leave: each struct is built here and nowhere else.
 ghost use mathlib.Core.Path.{_≡_};
 ghost use Rattle.wire.specs.Slices.{zeros};
-ghost use Rattle.machine.specs.Units.{withSense, withSwitch, isProtected};
 ghost use Rattle.machine.specs.Record.{noTask, moved, withHalts, withAddress, droppedState};
 ghost use Rattle.machine.specs.Bulk.{lockedState};
 use machine::record::Link;
-use machine::record::LogicalUnit;
 use machine::record::Stage;
 use machine::record::State;
 use machine::record::Task;
-use scsi::sense::Sense;
 
 pub fn no_task() -> Task
     ensures { λ r. ⌜ r ≡ noTask ⌝ }
@@ -21,38 +18,6 @@ pub fn no_task() -> Task
         announced: 0,
         residue: 0,
     }
-}
-
-// Another sense; the unit's part of the medium and its switch stay.
-pub fn with_sense(unit: LogicalUnit, sense: Sense) -> LogicalUnit
-    ensures { λ r. ⌜ r ≡ withSense unit sense ⌝ }
-{
-    LogicalUnit {
-        first: unit.first,
-        blocks: unit.blocks,
-        sense,
-        switch: unit.switch,
-    }
-}
-
-// The write switch in another position; all else of the unit stays.
-pub fn with_switch(unit: LogicalUnit, position: u8) -> LogicalUnit
-    ensures { λ r. ⌜ r ≡ withSwitch unit position ⌝ }
-{
-    let sense = unit.sense;
-    LogicalUnit {
-        first: unit.first,
-        blocks: unit.blocks,
-        sense,
-        switch: position,
-    }
-}
-
-// A closed switch protects its unit from being written.
-pub fn is_protected(unit: LogicalUnit) -> bool
-    ensures { λ r. ⌜ r ≡ isProtected unit ⌝ }
-{
-    unit.switch == 1
 }
 
 // Within a command: halts and task change.
@@ -100,7 +65,7 @@ pub fn with_address(state: State, address: u8) -> State
     }
 }
 
-// "Dropping the command": ready for a wrapper, lock ended. The caller wipes the part block and clears the sense.
+// "Dropping the command": ready for a wrapper, lock ended. The caller wipes the part block and clears the senses.
 pub fn dropped_state(address: u8, configured: bool, haltin: bool, haltout: bool) -> State
     ensures { λ r. ⌜ r ≡ droppedState address configured haltin haltout ⌝ }
 {

@@ -112,3 +112,12 @@ behind a b m s h l =
     ∙ drop-append-add (take b m ++ s) (drop (b + length s) m) c
     ∙ drop-drop c (b + length s) m
     ∙ ap (λ (k : ℕ). drop k m) (sym f)
+
+-- ---- a part of a part
+
+pub part-of-part : (f k a n : ℕ) (m : List ℕ) → a + n ≤ k → take n (drop a (take k (drop f m))) ≡ take n (drop (f + a) m)
+part-of-part f k a n m h =
+    sym (drop-take a n (take k (drop f m)))
+    ∙ ap (drop a) (take-take (a + n) k (drop f m) h)
+    ∙ drop-take a n (drop f m)
+    ∙ ap (take n) (drop-drop a f m)

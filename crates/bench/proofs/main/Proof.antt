@@ -22,10 +22,10 @@ play-requires : tie.Need-play-requires
 play-requires c κs = search needs
 
 array-share-prefix-text : tie.Need-array-share-prefix-text
-array-share-prefix-text c = within-text _ _ _ _ _ _ _ (c .play .ensures)
+array-share-prefix-text c = within-text _ _ _ _ _ _ _ _ (c .play .ensures)
 
 slice-aggregate-write-all : tie.Need-slice-aggregate-write-all
-slice-aggregate-write-all c = sym (length-take-le _ _ (within-text _ _ _ _ _ _ _ (c .before .play .ensures)))
+slice-aggregate-write-all c = sym (length-take-le _ _ (within-text _ _ _ _ _ _ _ _ (c .before .play .ensures)))
 
 write-all-requires : tie.Need-write-all-requires
 write-all-requires c κs = search needs

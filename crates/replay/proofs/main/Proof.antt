@@ -19,6 +19,12 @@ over-128-blocks-requires c κs = tt
 loop-holds : tie.Need-loop-holds Inv-loop μ-loop
 loop-holds c = tt
 
+is-for-four-requires : tie.Need-is-for-four-requires Inv-loop μ-loop
+is-for-four-requires c κs = tt
+
+over-four-units-requires : tie.Need-over-four-units-requires Inv-loop μ-loop
+over-four-units-requires c κs = tt
+
 on-the-bench-requires : tie.Need-on-the-bench-requires Inv-loop μ-loop
 on-the-bench-requires c κs = tt
 
@@ -43,6 +49,8 @@ main-spec =
     arg-count-requires
     over-128-blocks-requires
     loop-holds
+    is-for-four-requires
+    over-four-units-requires
     on-the-bench-requires
     add-i
     loop-less

@@ -37,10 +37,10 @@ slice-aggregate-show : tie.Need-slice-aggregate-show
 slice-aggregate-show c = search needs
 
 array-share-prefix-text : tie.Need-array-share-prefix-text
-array-share-prefix-text c = within-text _ _ _ _ _ _ _ (c .before .play .ensures)
+array-share-prefix-text c = within-text _ _ _ _ _ _ _ _ (c .before .play .ensures)
 
 slice-aggregate-show-2 : tie.Need-slice-aggregate-show-2
-slice-aggregate-show-2 c = sym (length-take-le _ _ (within-text _ _ _ _ _ _ _ (c .before .before .play .ensures)))
+slice-aggregate-show-2 c = sym (length-take-le _ _ (within-text _ _ _ _ _ _ _ _ (c .before .before .play .ensures)))
 
 show-requires : tie.Need-show-requires
 show-requires c κs = search needs

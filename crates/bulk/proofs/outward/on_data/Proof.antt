@@ -19,13 +19,10 @@ wipe-requires c κs = search needs
 cut-state-requires : tie.Need-cut-state-requires
 cut-state-requires c κs = search needs
 
-with-sense-requires : tie.Need-with-sense-requires
-with-sense-requires c κs = search needs
-
 returns : tie.Need-returns
 unfolding onData cutShort cutState if_then_else_
 returns c =
-    λ i. simp (ne-eqb _ _ (c .before .before .before .before .if1 .taken), c .with-sense .ensures, c .before .cut-state .ensures, c .before .before .wipe .ensures)
+    λ i u. simp (ne-eqb _ _ (c .before .before .before .if1 .taken), c .cut-state .ensures, c .before .wipe .ensures)
 
 put-packet-requires : tie.Need-put-packet-requires
 put-packet-requires c κs = search needs
@@ -39,7 +36,7 @@ gathered-state-requires c κs = search needs
 returns-2 : tie.Need-returns-2
 unfolding onData gathered gatheredState if_then_else_
 returns-2 c =
-    λ i. simp (eq-eqb _ _ (c .before .before .before .before .if1 .left), lt-ltb _ _ (c .before .if2 .taken), c .gathered-state .ensures, c .before .before .put-packet .ensures)
+    λ i u. simp (eq-eqb _ _ (c .before .before .before .before .if1 .left), lt-ltb _ _ (c .before .if2 .taken), c .gathered-state .ensures, c .before .before .put-packet .ensures)
 
 mul-start : tie.Need-mul-start
 mul-start c = search needs
@@ -76,7 +73,7 @@ returns-3 c =
     let l : length (a .part .now) ≡ 512 = search needs in
     let b : length (placed (a .part .now) (a .held) (a .packet .now)) ≡ 512 = length-placed (a .part .now) (a .held) (a .packet .now) ∙ l in
     let q : y ≡ placed (take (512 * a .block + 512 - 512 * a .block) (drop (512 * a .block) (a .medium .now))) 0 (placed (a .part .now) (a .held) (a .packet .now)) = c .before .before .before .before .before .put .ensures .1 ∙ ap (placed _ 0) (c .before .before .before .before .before .before .before .before .before .before .put-packet .ensures) in
-    λ i. simp (eq-eqb _ _ (c .before .before .before .before .before .before .before .before .before .before .before .before .if1 .left), le-ltb _ _ (c .before .before .before .before .before .before .before .before .before .if2 .left), c .stored-state .ensures, c .before .wipe2 .ensures, whole-block (512 * a .block) (512 * a .block + 512 - 512 * a .block) (a .medium .now) _ y (omega arith) (c .before .before .before .before .before .before .before .before .before .before .before .before .before .before .before .pre .place) b q)
+    λ i u. simp (eq-eqb _ _ (c .before .before .before .before .before .before .before .before .before .before .before .before .if1 .left), le-ltb _ _ (c .before .before .before .before .before .before .before .before .before .if2 .left), c .stored-state .ensures, c .before .wipe2 .ensures, whole-block (512 * a .block) (512 * a .block + 512 - 512 * a .block) (a .medium .now) _ y (omega arith) (c .before .before .before .before .before .before .before .before .before .before .before .before .before .before .before .pre .place) b q)
 
 pub on-data-spec : {M : Type 1} → statement M
 on-data-spec =
@@ -84,7 +81,6 @@ on-data-spec =
     (tie.spec
     wipe-requires
     cut-state-requires
-    with-sense-requires
     returns
     put-packet-requires
     add-if2

@@ -2,7 +2,7 @@
 use borrow.Author.Tests.{eq-eqb, ne-eqb}
 use Rattle.wire.specs.Choice.{if_then_else_}
 use Rattle.machine.specs.Bulk.{outStage, packetOut}
-use Rattle.bulk.proofs.Running.{in-unit, gathering}
+use Rattle.bulk.proofs.Running.{writing}
 use borrow.Author.Needs.{needs}
 use Rattle.bulk.proofs.outward.packet_out.Statement.{statement}
 use Rattle.bulk.proofs.outward.packet_out.Tie as tie
@@ -19,14 +19,14 @@ unfolding packetOut outStage if_then_else_
 returns-2 c =
     λ i. simp (c .before .before .before .before .if1 .left, c .before .before .stage .given .1, eq-eqb _ _ (c .if2 .taken))
 
-on-data-requires : tie.Need-on-data-requires
-on-data-requires c κs = gathering _ _ _ (c .before .before .before .before .before .before .before .before .before .before .before .pre) _ _ _ (c .before .before .before .before .stage .given .1) (c .before .before .if2 .left) .1
+to-unit-requires : tie.Need-to-unit-requires
+to-unit-requires c κs = writing _ _ _ (c .before .before .before .before .before .before .before .before .before .before .before .pre) _ _ _ (c .before .before .before .before .stage .given .1) (c .before .before .if2 .left)
 
 enum-told : tie.Need-enum-told
 enum-told c = search needs
 
 on-wrapper-requires : tie.Need-on-wrapper-requires
-on-wrapper-requires c κs = search needs
+on-wrapper-requires c κs = c .before .before .before .before .before .before .before .pre .laid
 
 enum-told-2 : tie.Need-enum-told-2
 enum-told-2 c = search needs
@@ -43,10 +43,7 @@ same-length c = search needs
 returns-3 : tie.Need-returns-3
 unfolding packetOut outStage if_then_else_
 returns-3 c =
-    λ i.
-    let g = gathering _ _ _ (c .before .before .before .before .before .before .before .before .before .before .before .before .before .before .pre) _ _ _ (c .before .before .before .before .before .before .before .stage .given .1) (c .before .before .before .before .before .if2 .left) in
-    simp (c .before .before .before .before .before .before .before .before .before .if1 .left, c .before .before .before .before .before .before .before .stage .given .1, ne-eqb _ _ (c .before .before .before .before .before .if2 .left))
-    (in-unit _ _ _ _ _ _ (g .0) (c .before .before .before .before .before .before .before .before .before .before .before .before .before .before .pre .first) (c .before .before .before .before .before .before .before .before .before .before .before .before .before .before .pre .whole) (search needs) (c .before .before .on-data .ensures i))
+    λ i. simp (c .before .before .before .before .before .before .before .before .before .if1 .left, c .before .before .before .before .before .before .before .stage .given .1, ne-eqb _ _ (c .before .before .before .before .before .if2 .left)) (c .before .before .to-unit .ensures i)
 
 returns-4 : tie.Need-returns-4
 unfolding packetOut outStage if_then_else_
@@ -72,7 +69,7 @@ packet-out-spec =
     returns
     enum-known-stage
     returns-2
-    on-data-requires
+    to-unit-requires
     enum-told
     on-wrapper-requires
     enum-told-2

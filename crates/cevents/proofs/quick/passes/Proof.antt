@@ -39,4 +39,6 @@ returns-7 c =
     }
 
 pub passes-spec : {M : Type 1} → statement M
-passes-spec = tie.close (tie.spec returns returns-2 returns-3 returns-4 returns-5 returns-6 is-free-requires returns-7)
+passes-spec =
+    tie.close
+    (tie.spec returns returns-2 returns-3 returns-4 returns-5 returns-6 is-free-requires returns-7)

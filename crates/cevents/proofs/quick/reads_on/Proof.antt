@@ -1,6 +1,6 @@
 -- `reads_on` meets its contract. Assumes nothing.
 use mathlib.Core.Path.{sym, _∙_}
-use borrow.Author.Tests.{not-false}
+use borrow.Author.Tests.{not-false, eqb-true}
 use Rattle.cevents.proofs.Never.{never}
 use borrow.Author.Needs.{needs}
 use Rattle.cevents.proofs.quick.reads_on.Statement.{statement}
@@ -18,9 +18,6 @@ returns-3 c = never
 returns-4 : tie.Need-returns-4
 returns-4 c = never
 
-cast-in-fits : tie.Need-cast-in-fits
-cast-in-fits c = search needs
-
 mul-in-fits : tie.Need-mul-in-fits
 mul-in-fits c = search needs
 
@@ -34,16 +31,46 @@ is-free-requires : tie.Need-is-free-requires
 is-free-requires c κs = search needs
 
 returns-6 : tie.Need-returns-6
-returns-6 c =
+returns-6 c = never
+
+returns-7 : tie.Need-returns-7
+returns-7 c =
+    λ _.
+    record {
+      free = c .before .before .is-free .ensures (not-false _ (c .before .if6 .left));
+      stage = c .before .before .before .before .before .before .before .before .if1 .left;
+      value = c .before .before .before .before .before .before .before .if2 .left;
+      packet = c .before .before .before .before .before .before .if3 .left;
+      last = λ z. absurd (c .if7 .taken z);
+      running = sym (c .before .before .before .before .in-fits .ensures) ∙ not-false _ (c .before .before .before .if5 .left);
+      room = c .before .before .before .before .before .if4 .left;
+    }
+
+returns-8 : tie.Need-returns-8
+returns-8 c =
     λ e.
     record {
-      free = c .is-free .ensures e;
-      stage = c .before .before .before .before .before .before .if1 .left;
-      value = c .before .before .before .before .before .if2 .left;
-      more = c .before .before .before .before .if3 .left;
-      running = sym (c .before .before .in-fits .ensures) ∙ not-false _ (c .before .if5 .left);
-      room = c .before .before .before .if4 .left;
+      free = c .before .before .is-free .ensures (not-false _ (c .before .if6 .left));
+      stage = c .before .before .before .before .before .before .before .before .if1 .left;
+      value = c .before .before .before .before .before .before .before .if2 .left;
+      packet = c .before .before .before .before .before .before .if3 .left;
+      last = λ _. eqb-true _ _ e;
+      running = sym (c .before .before .before .before .in-fits .ensures) ∙ not-false _ (c .before .before .before .if5 .left);
+      room = c .before .before .before .before .before .if4 .left;
     }
 
 pub reads-on-spec : {M : Type 1} → statement M
-reads-on-spec = tie.close (tie.spec returns returns-2 returns-3 returns-4 cast-in-fits mul-in-fits in-fits-requires returns-5 is-free-requires returns-6)
+reads-on-spec =
+    tie.close
+    (tie.spec
+    returns
+    returns-2
+    returns-3
+    returns-4
+    mul-in-fits
+    in-fits-requires
+    returns-5
+    is-free-requires
+    returns-6
+    returns-7
+    returns-8)

@@ -1,5 +1,6 @@
 -- `turn_make` meets its contract. Assumes nothing.
-use Rattle.cevents.proofs.Turns.{making}
+use mathlib.Core.Path.{refl}
+use Rattle.cevents.proofs.Making.{making}
 use borrow.Author.Needs.{needs}
 use Rattle.cevents.proofs.turn.turn_make.Statement.{statement}
 use Rattle.cevents.proofs.turn.turn_make.Tie as tie
@@ -21,8 +22,9 @@ flat-of-requires c κs = search needs
 
 returns : tie.Need-returns
 returns c =
-    let a = c .before .before .before .before .before .before .before .before .before .args in
-    making (a .given) (a .medium .now) _ (c .before .before .before .before .before .before .make .result) _ _ _ (c .before .before .before .before .before .before .before .identity-from .ensures) (c .before .before .before .before .before .before .make .ensures) (c .before .before .before .told .ensures) (c .before .before .given-of .ensures) (c .before .flat-of .ensures)
+    let a = c .before .before .before .before .before .before .before .before .before .before .args in
+    let r = c .before .before .before .before .before .before .before .make .result in
+    making (a .given) (a .units) (a .medium .now) _ (r .answer) (r .device) (r .units) _ _ _ _ (c .before .before .before .before .before .before .before .before .identity-from .ensures) (c .before .before .before .before .before .before .before .make .ensures) (c .before .before .before .before .told .ensures) (c .before .before .before .given-of .ensures) (c .before .before .flat-of .ensures) refl
 
 pub turn-make-spec : {M : Type 1} → statement M
 turn-make-spec =

@@ -5,15 +5,12 @@ use borrow.Author.Needs.{needs}
 use Rattle.collector.proofs.making.fresh.Statement.{statement}
 use Rattle.collector.proofs.making.fresh.Tie as tie
 
-new-requires : tie.Need-new-requires
-new-requires c κs = search needs
-
 no-task-requires : tie.Need-no-task-requires
 no-task-requires c κs = search needs
 
 returns : tie.Need-returns
 unfolding fresh zeros
-returns c = simp (c .before .new .ensures, c .no-task .ensures)
+returns c = simp (c .no-task .ensures)
 
 pub fresh-spec : {M : Type 1} → statement M
-fresh-spec = tie.close (tie.spec new-requires no-task-requires returns)
+fresh-spec = tie.close (tie.spec no-task-requires returns)

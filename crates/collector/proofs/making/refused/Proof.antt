@@ -9,7 +9,7 @@ fresh-requires c κs = search needs
 
 returns : tie.Need-returns
 unfolding noDevice
-returns c = c .fresh .ensures
+returns c = simp (c .fresh .ensures)
 
 pub refused-spec : {M : Type 1} → statement M
 refused-spec = tie.close (tie.spec fresh-requires returns)

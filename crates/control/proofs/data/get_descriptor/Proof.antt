@@ -42,12 +42,12 @@ same-length c = search needs
 returns : tie.Need-returns
 unfolding perform descriptorPacket
 returns c =
-    λ p m.
+    λ p m us.
     let h = held _ _ (c .before .before .before .before .before .before .before .descriptor-bytes .ensures) (descriptor-long (c .before .before .before .before .before .before .before .before .before .args .which) (c .before .before .before .before .before .before .before .before .before .args .identity)) in
     let r = h .room in
     let n = h .count in
     let a = c .before .before .before .before .before .before .before .before .before .args in
-    simp (sym (h .front (a .wlength) (omega (arith, c .before .before .before .before .before .if1 .taken)))) (c .before .before .send .ensures (world (device (a .identity) (a .state) p) [] m))
+    simp (sym (h .front (a .wlength) (omega (arith, c .before .before .before .before .before .if1 .taken)))) (c .before .before .send .ensures (world (device (a .identity) (a .state) p) us m))
 
 array-share-prefix-bytes-2 : tie.Need-array-share-prefix-bytes-2
 unfolding descriptorPacket
@@ -70,13 +70,13 @@ same-length-2 c = search needs
 returns-2 : tie.Need-returns-2
 unfolding perform descriptorPacket
 returns-2 c =
-    λ p m.
+    λ p m us.
     let h = held _ _ (c .before .before .before .before .before .before .before .descriptor-bytes .ensures) (descriptor-long (c .before .before .before .before .before .before .before .before .before .args .which) (c .before .before .before .before .before .before .before .before .before .args .identity)) in
     let r = h .room in
     let n = h .count in
     let a = c .before .before .before .before .before .before .before .before .before .args in
     let e : take (a .wlength) (descriptorData (a .which) (a .identity)) ≡ take (c .before .before .before .before .before .before .before .descriptor-bytes .result .len) (c .before .before .before .before .before .before .before .descriptor-bytes .result .bytes) = take-all (a .wlength) _ (omega (arith, c .before .before .before .before .before .if1 .left)) ∙ sym (h .is) in
-    simp e (c .before .before .send2 .ensures (world (device (a .identity) (a .state) p) [] m))
+    simp e (c .before .before .send2 .ensures (world (device (a .identity) (a .state) p) us m))
 
 pub get-descriptor-spec : {M : Type 1} → statement M
 get-descriptor-spec =

@@ -1,6 +1,7 @@
 -- `reset_parts` meets its contract. Assumes nothing.
 use mathlib.Core.Path.{ap, _∙_}
 use mathlib.Core.List.{[], _∷_}
+use Rattle.units.specs.Held.{tableOf}
 use Rattle.machine.specs.Record.{device}
 use Rattle.machine.specs.World.{world}
 use Rattle.machine.specs.Control.{reset}
@@ -30,15 +31,15 @@ unfolding lent checks
 returns c =
     λ m.
     let a = c .before .before .before .before .before .args in
-    refused _ (world (device (a .identity) (a .state) (a .part .now)) (a .unit ∷ []) m) busReset (simp (c .before .before .before .before .fits2 .ensures) at (c .before .before .before .admit .ensures)) _ (c .before .answer .given .1)
+    refused _ (world (device (a .identity) (a .state) (a .part .now)) (tableOf (a .units)) m) busReset (simp (c .before .before .before .before .fits2 .ensures) at (c .before .before .before .admit .ensures)) _ (c .before .answer .given .1)
 
 returns-2 : tie.Need-returns-2
 unfolding checks effect reset
 returns-2 c =
     λ m.
     let a = c .before .before .before .before .before .before .args in
-    ap told (c .drop-command .ensures (a .identity) (a .state) m [])
-    ∙ gone-on _ (world (device (a .identity) (a .state) (a .part .now)) (a .unit ∷ []) m) busReset (simp (c .before .before .before .before .before .fits2 .ensures) at (c .before .before .before .before .admit .ensures)) (c .before .before .enum-told .given .1)
+    ap told (c .drop-command .ensures (a .identity) (a .state) (tableOf (a .units)) m [])
+    ∙ gone-on _ (world (device (a .identity) (a .state) (a .part .now)) (tableOf (a .units)) m) busReset (simp (c .before .before .before .before .before .fits2 .ensures) at (c .before .before .before .before .admit .ensures)) (c .before .before .enum-told .given .1)
 
 pub reset-parts-spec : {M : Type 1} → statement M
 reset-parts-spec =

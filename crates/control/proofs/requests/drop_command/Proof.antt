@@ -1,5 +1,4 @@
 -- `drop_command` meets its contract. Assumes nothing.
-use Rattle.machine.specs.Units.{withSense, cleared}
 use Rattle.machine.specs.World.{dropped}
 use borrow.Author.Needs.{needs}
 use Rattle.control.proofs.requests.drop_command.Statement.{statement}
@@ -11,13 +10,10 @@ wipe-requires c κs = search needs
 dropped-state-requires : tie.Need-dropped-state-requires
 dropped-state-requires c κs = search needs
 
-with-sense-requires : tie.Need-with-sense-requires
-with-sense-requires c κs = search needs
-
 returns : tie.Need-returns
-unfolding dropped cleared withSense
-returns c = λ i s m b. simp (c .with-sense .ensures, c .before .dropped-state .ensures, c .before .before .wipe .ensures)
+unfolding dropped
+returns c = λ i s us m b. simp (c .dropped-state .ensures, c .before .wipe .ensures)
 
 pub drop-command-spec : {M : Type 1} → statement M
 drop-command-spec =
-    tie.close (tie.spec wipe-requires dropped-state-requires with-sense-requires returns)
+    tie.close (tie.spec wipe-requires dropped-state-requires returns)

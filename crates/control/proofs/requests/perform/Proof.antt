@@ -79,11 +79,11 @@ enum-told-6 c = search needs
 
 returns : tie.Need-returns
 unfolding perform
-returns c = λ m. simp (c .before .before .request .given .1) (c .set-address .ensures (world (device _ (noDevice .state) _) [] m) _)
+returns c = λ us m l. simp (c .before .before .request .given .1) (c .set-address .ensures (world (device _ (noDevice .state) _) us m) _)
 
 returns-2 : tie.Need-returns-2
 unfolding perform
-returns-2 c = λ m. simp (c .before .before .before .request2 .given .1) (c .set-configuration .ensures _ m _)
+returns-2 c = λ us m l. simp (c .before .before .before .request2 .given .1) (c .set-configuration .ensures _ us m _)
 
 same-length : tie.Need-same-length
 same-length c = search needs
@@ -91,7 +91,7 @@ same-length c = search needs
 returns-3 : tie.Need-returns-3
 unfolding perform
 returns-3 c =
-    λ m. simp (c .before .before .before .before .enum-told .given .1) (c .before .before .get-configuration .ensures (world (device _ (noDevice .state) _) [] m))
+    λ us m l. simp (c .before .before .before .before .enum-told .given .1) (c .before .before .get-configuration .ensures (world (device _ (noDevice .state) _) us m))
 
 same-length-2 : tie.Need-same-length-2
 same-length-2 c = search needs
@@ -99,7 +99,7 @@ same-length-2 c = search needs
 returns-4 : tie.Need-returns-4
 unfolding perform
 returns-4 c =
-    λ m. simp (c .before .before .before .before .enum-told2 .given .1) (c .before .before .send-flag .ensures (world (device _ (noDevice .state) _) [] m))
+    λ us m l. simp (c .before .before .before .before .enum-told2 .given .1) (c .before .before .send-flag .ensures (world (device _ (noDevice .state) _) us m))
 
 same-length-3 : tie.Need-same-length-3
 same-length-3 c = search needs
@@ -107,7 +107,7 @@ same-length-3 c = search needs
 returns-5 : tie.Need-returns-5
 unfolding perform
 returns-5 c =
-    λ m. simp (c .before .before .before .before .enum-told3 .given .1) (c .before .before .send-configured .ensures (world (device _ (noDevice .state) _) [] m))
+    λ us m l. simp (c .before .before .before .before .enum-told3 .given .1) (c .before .before .send-configured .ensures (world (device _ (noDevice .state) _) us m))
 
 same-length-4 : tie.Need-same-length-4
 same-length-4 c = search needs
@@ -115,19 +115,19 @@ same-length-4 c = search needs
 returns-6 : tie.Need-returns-6
 unfolding perform
 returns-6 c =
-    λ m. simp (c .before .before .before .before .before .request3 .given .1) (c .before .before .endpoint-status .ensures (world (device _ (noDevice .state) _) [] m))
+    λ us m l. simp (c .before .before .before .before .before .request3 .given .1) (c .before .before .endpoint-status .ensures (world (device _ (noDevice .state) _) us m))
 
 returns-7 : tie.Need-returns-7
 unfolding perform if_then_else_
-returns-7 c = λ m. simp (c .before .before .request4 .given .1) (c .set-feature .ensures (world (device _ (noDevice .state) _) [] m) _)
+returns-7 c = λ us m l. simp (c .before .before .request4 .given .1) (c .set-feature .ensures (world (device _ (noDevice .state) _) us m) _)
 
 returns-8 : tie.Need-returns-8
 unfolding perform if_then_else_
-returns-8 c = λ m. simp (c .before .before .request5 .given .1) (c .set-feature2 .ensures (world (device _ (noDevice .state) _) [] m) _)
+returns-8 c = λ us m l. simp (c .before .before .request5 .given .1) (c .set-feature2 .ensures (world (device _ (noDevice .state) _) us m) _)
 
 returns-9 : tie.Need-returns-9
 unfolding perform
-returns-9 c = λ m. simp (c .before .before .enum-told4 .given .1) (c .mass-storage-reset .ensures _ m _)
+returns-9 c = λ us m l. simp (c .before .before .enum-told4 .given .1) (c .mass-storage-reset .ensures _ us m _)
 
 same-length-5 : tie.Need-same-length-5
 same-length-5 c = search needs
@@ -135,7 +135,7 @@ same-length-5 c = search needs
 returns-10 : tie.Need-returns-10
 unfolding perform
 returns-10 c =
-    λ m. simp (c .before .before .before .before .enum-told5 .given .1) (c .before .before .get-max-lun .ensures (world (device _ (noDevice .state) _) [] m))
+    λ us m l. simp (c .before .before .before .before .enum-told5 .given .1) (c .before .before .get-max-lun .ensures (world (device _ (noDevice .state) _) us m) l)
 
 same-length-6 : tie.Need-same-length-6
 same-length-6 c = search needs
@@ -143,11 +143,11 @@ same-length-6 c = search needs
 returns-11 : tie.Need-returns-11
 unfolding perform
 returns-11 c =
-    λ m. simp (c .before .before .before .before .before .request6 .given .1) (c .before .before .get-descriptor .ensures _ m)
+    λ us m l. simp (c .before .before .before .before .before .request6 .given .1) (c .before .before .get-descriptor .ensures _ m us)
 
 returns-12 : tie.Need-returns-12
 unfolding perform
-returns-12 c = λ m. simp (c .enum-told6 .given .1)
+returns-12 c = λ us m l. simp (c .enum-told6 .given .1)
 
 pub perform-spec : {M : Type 1} → statement M
 perform-spec =

@@ -9,7 +9,7 @@ drop-command-requires c κs = search needs
 
 returns : tie.Need-returns
 unfolding perform
-returns c = λ i m b. c .drop-command .ensures i _ m b
+returns c = λ i us m b. c .drop-command .ensures i _ us m b
 
 pub set-configuration-spec : {M : Type 1} → statement M
 set-configuration-spec = tie.close (tie.spec drop-command-requires returns)

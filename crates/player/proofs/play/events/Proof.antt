@@ -41,7 +41,6 @@ use denote.Triple.Statement.{Triple}
 use denote.Triple.Table.{entered, cited}
 use denote.Triple.Walked.{says, needs, Stays, stay-none, stay-none-slice, stay-slice, walkOf, goes-none, goes-none-slice, goes-slice, Walks, ends-at, walked, walk-meets}
 use denote.Exit.{yes}
-use Rattle.machine.specs.Machine.{Run}
 use Rattle.recording.specs.declared.cursor.Reading.{Reading}
 use Rattle.recording.proofs.cursor.Reading as S
 use Rattle.recording.proofs.cursor.Reading.Laws as S′
@@ -150,6 +149,9 @@ module _ {M : Type 1} (𝓤 : URA M) (H : Heap 𝓤) (A : Atoms 𝓤) (W : Given
     turn-typed : (t : Turn) → Is U.the-row t (turn-val t ∷ []) → Holds (hasTy U′.mir (turn-val t)) × WT (turn-val t)
     turn-typed t is = LL.lawful U.the-type U′.the-laws 𝓤 H A W .typed t _ is .0
 
+    count-fits : start .units .count < 2 ^ 64
+    count-fits = turn-typed start is₀ .1 .1 .0 .0 .fits
+
     read-typed : (r : Reading) → Is S.the-row r (read-val r ∷ []) → Holds (hasTy S′.mir (read-val r)) × WT (read-val r)
     read-typed r is = LL.lawful S.the-type S′.the-laws 𝓤 H A W .typed r _ is .0
 
@@ -166,35 +168,36 @@ module _ {M : Type 1} (𝓤 : URA M) (H : Heap 𝓤) (A : Atoms 𝓤) (W : Given
     sizes : (st : State-of) → st .done < n → (r : Reading) → Is S.the-row r (read-val r ∷ []) → Sized (passing st r)
     sizes st less r is = record { body = st .body-fits; read = is; turn = st .is; done = omega arith; medium = medium-room st; text = text-room st }
 
-    module _ (l₀ l₁ l₂ l₃ l₄ l₅ l₆ l₇ l₈ l₉ l₁₀ l₁₁ l₁₂ l₁₃ l₁₄ l₁₅ l₁₆ l₁₇ l₁₈ l₁₉ l₂₀ : ℕ) where
+    module _ (l₀ l₁ l₂ l₃ l₄ l₅ l₆ l₇ l₈ l₉ l₁₀ l₁₁ l₁₂ l₁₃ l₁₄ l₁₅ l₁₆ l₁₇ l₁₈ l₁₉ l₂₀ l₂₁ : ℕ) where
       abbrev En : Env 𝓤 H
-      En = (U′.mir, l₀) ∷ (Input, l₁) ∷ (word, l₂) ∷ (Medium, l₃) ∷ (Text, l₄) ∷ (U′.mir, l₅) ∷ (T′.mir erased, l₆) ∷ (U′.mir, l₇) ∷ (word, l₈) ∷ (S′.mir, l₉) ∷ (word, l₁₀) ∷ (word, l₁₁) ∷ (tyBool, l₁₂) ∷ (T′.mir erased, l₁₃) ∷ (Shown, l₁₄) ∷ (word, l₁₅) ∷ (ref, l₁₆) ∷ (Lent, l₁₇) ∷ (ref, l₁₈) ∷ (Lent, l₁₉) ∷ (T′.mir erased, l₂₀) ∷ []
+      En = (U′.mir, l₀) ∷ (Input, l₁) ∷ (word, l₂) ∷ (Medium, l₃) ∷ (Text, l₄) ∷ (U′.mir, l₅) ∷ (word, l₆) ∷ (T′.mir erased, l₇) ∷ (U′.mir, l₈) ∷ (word, l₉) ∷ (S′.mir, l₁₀) ∷ (word, l₁₁) ∷ (word, l₁₂) ∷ (tyBool, l₁₃) ∷ (T′.mir erased, l₁₄) ∷ (Shown, l₁₅) ∷ (word, l₁₆) ∷ (ref, l₁₇) ∷ (Lent, l₁₈) ∷ (ref, l₁₉) ∷ (Lent, l₂₀) ∷ (T′.mir erased, l₂₁) ∷ []
 
       -- [what is lent; the head, the turn, the count; the parameters; the other locals; and that each local dies]
       abbrev With : Turn → ℕ → ℕ → ℕ → List ℕ → List ℕ → List (Item 𝓤)
       With turn done e b medium text = ‵ (flft κ₁ q₁) ∷ ‵ (Own κ₁ x₁) ∷ ‵ (flft κ₂ q₂) ∷ ‵ (OwnMut 1 κ₂ (at-list x₂ medium)) ∷ ‵ (flft κ₃ q₃) ∷ ‵ (OwnMut 2 κ₃ (at-list x₃ text))
-          ∷ ‵ (fat fullShare (T′.mir erased) l₆ 0 (T′.lowered (head-at x₁ e b)))
-          ∷ ‵ (fat fullShare U′.mir l₇ 0 (turn-val turn))
-          ∷ ‵ (fat fullShare word l₈ 0 (vint w64 done))
+          ∷ ‵ (fat fullShare (T′.mir erased) l₇ 0 (T′.lowered (head-at x₁ e b)))
+          ∷ ‵ (fat fullShare U′.mir l₈ 0 (turn-val turn))
+          ∷ ‵ (fat fullShare word l₉ 0 (vint w64 done))
           ∷ ‵ (fat fullShare Input l₁ 0 (bytes-val x₁))
           ∷ ‵ (fat fullShare word l₂ 0 (vint w64 n))
           ∷ ‵ (fat fullShare Medium l₃ 0 (bytes-val (at-list x₂ medium)))
           ∷ ‵ (fat fullShare Text l₄ 0 (bytes-val (at-list x₃ text)))
-          ∷ ‵ (froom S′.mir l₉ 0)
-          ∷ ‵ (froom tyBool l₁₂ 0)
-          ∷ ‵ (froom (T′.mir erased) l₁₃ 0)
-          ∷ ‵ (froom Shown l₁₄ 0)
-          ∷ ‵ (froom word l₁₅ 0)
-          ∷ ‵ (froom ref l₁₆ 0)
-          ∷ ‵ (froom Lent l₁₇ 0)
-          ∷ ‵ (froom ref l₁₈ 0)
-          ∷ ‵ (froom Lent l₁₉ 0)
-          ∷ ‵ (froom (T′.mir erased) l₂₀ 0)
+          ∷ ‵ (froom S′.mir l₁₀ 0)
+          ∷ ‵ (froom tyBool l₁₃ 0)
+          ∷ ‵ (froom (T′.mir erased) l₁₄ 0)
+          ∷ ‵ (froom Shown l₁₅ 0)
+          ∷ ‵ (froom word l₁₆ 0)
+          ∷ ‵ (froom ref l₁₇ 0)
+          ∷ ‵ (froom Lent l₁₈ 0)
+          ∷ ‵ (froom ref l₁₉ 0)
+          ∷ ‵ (froom Lent l₂₀ 0)
+          ∷ ‵ (froom (T′.mir erased) l₂₁ 0)
           ∷ ‵ (froom U′.mir l₀ 0)
           ∷ ‵ (fat fullShare U′.mir l₅ 0 (turn-val start))
-          ∷ ‵ (fat fullShare word l₁₀ 0 (vint w64 (4 * n)))
-          ∷ ‵ (fat fullShare word l₁₁ 0 (vint w64 (2 + 4 * n)))
-          ∷ ‵ (fdies U′.mir l₀) ∷ ‵ (fdies Input l₁) ∷ ‵ (fdies word l₂) ∷ ‵ (fdies Medium l₃) ∷ ‵ (fdies Text l₄) ∷ ‵ (fdies U′.mir l₅) ∷ ‵ (fdies (T′.mir erased) l₆) ∷ ‵ (fdies U′.mir l₇) ∷ ‵ (fdies word l₈) ∷ ‵ (fdies S′.mir l₉) ∷ ‵ (fdies word l₁₀) ∷ ‵ (fdies word l₁₁) ∷ ‵ (fdies tyBool l₁₂) ∷ ‵ (fdies (T′.mir erased) l₁₃) ∷ ‵ (fdies Shown l₁₄) ∷ ‵ (fdies word l₁₅) ∷ ‵ (fdies ref l₁₆) ∷ ‵ (fdies Lent l₁₇) ∷ ‵ (fdies ref l₁₈) ∷ ‵ (fdies Lent l₁₉) ∷ ‵ (fdies (T′.mir erased) l₂₀) ∷ []
+          ∷ ‵ (fat fullShare word l₁₁ 0 (vint w64 (4 * n)))
+          ∷ ‵ (fat fullShare word l₁₂ 0 (vint w64 (2 + 4 * n)))
+          ∷ ‵ (fat fullShare word l₆ 0 (vint w64 (start .units .count)))
+          ∷ ‵ (fdies U′.mir l₀) ∷ ‵ (fdies Input l₁) ∷ ‵ (fdies word l₂) ∷ ‵ (fdies Medium l₃) ∷ ‵ (fdies Text l₄) ∷ ‵ (fdies U′.mir l₅) ∷ ‵ (fdies word l₆) ∷ ‵ (fdies (T′.mir erased) l₇) ∷ ‵ (fdies U′.mir l₈) ∷ ‵ (fdies word l₉) ∷ ‵ (fdies S′.mir l₁₀) ∷ ‵ (fdies word l₁₁) ∷ ‵ (fdies word l₁₂) ∷ ‵ (fdies tyBool l₁₃) ∷ ‵ (fdies (T′.mir erased) l₁₄) ∷ ‵ (fdies Shown l₁₅) ∷ ‵ (fdies word l₁₆) ∷ ‵ (fdies ref l₁₇) ∷ ‵ (fdies Lent l₁₈) ∷ ‵ (fdies ref l₁₉) ∷ ‵ (fdies Lent l₂₀) ∷ ‵ (fdies (T′.mir erased) l₂₁) ∷ []
 
       abbrev At : State-of → List (Item 𝓤)
       At st = With (st .turn) (st .done) (st .entry) (st .body) (st .medium) (st .text)
@@ -204,7 +207,7 @@ module _ {M : Type 1} (𝓤 : URA M) (H : Heap 𝓤) (A : Atoms 𝓤) (W : Given
 
       -- when the loop is left, the rest of the body runs
       abbrev Left : Out → SProp 𝓤
-      Left = afterBlock 𝓤 H (afterSeq 𝓤 H (Wp 𝓤 H C Λ En pieces.t-7 (atReturn 𝓤 H En Post)) (atReturn 𝓤 H En Post))
+      Left = afterBlock 𝓤 H (afterSeq 𝓤 H (Wp 𝓤 H C Λ En pieces.t-8 (atReturn 𝓤 H En Post)) (atReturn 𝓤 H En Post))
 
       -- a turn's postcondition: it ends nearer to the last event, or the loop is left
       abbrev After : State-of → Out → SProp 𝓤
@@ -217,9 +220,9 @@ module _ {M : Type 1} (𝓤 : URA M) (H : Heap 𝓤) (A : Atoms 𝓤) (W : Given
           let wt = head-typed (st .entry) (st .body) (st .entry-fits) (st .body-fits) in
           let one-more : st .done + 1 < 2 ^ 64 = omega arith in
           assigns ! (bin ! (load ! (from ! (stop !)) (look ! 8 refl)) (load ! (from ! (stop !)) (look ! 10 refl)) tt) (from ! (stop !)) (init ! 14 refl (tt, tt)) $
-          rewrite ! 14 (λ (t : Bool). ‵ (fat fullShare tyBool l₁₂ 0 (vbool t))) test refl $ stays ! (load ! (from ! (stop !)) (look ! 14 refl)) $
+          rewrite ! 14 (λ (t : Bool). ‵ (fat fullShare tyBool l₁₃ 0 (vbool t))) test refl $ stays ! (load ! (from ! (stop !)) (look ! 14 refl)) $
           assigns ! (of-opd ! (load ! (from ! (stop !)) (look ! 6 refl))) (from ! (stop !)) (init ! 15 refl wt) $
-          reads-head ! mem run fm known-next κ₁ q₁ x₁ (st .entry) (st .body) (st .entry-fits) (st .body-fits) (and-then ! (load ! (from ! (stop !)) (look ! 15 refl)) (no-more !)) (λ r found isr.
+          reads-head ! mem run fm known-next κ₁ q₁ x₁ (st .entry) (st .body) (start .units .count) (st .entry-fits) (st .body-fits) count-fits (and-then ! (load ! (from ! (stop !)) (look ! 15 refl)) (and-then ! (load ! (from ! (stop !)) (look ! 27 refl)) (no-more !))) (λ r found isr.
           land ! (from ! (stop !)) (init ! 13 refl (read-typed r isr)) $
           assigns ! (of-opd ! (load ! (from ! (fld ! refl (stop !))) (look-in ! 6 (sub ! 0 refl (entire !))))) (from ! (stop !)) (init ! 16 refl (tt, wt .1 .0)) $
           assigns ! (of-opd ! (load ! (from ! (fld ! refl (stop !))) (look-in ! 6 (sub ! 2 refl (entire !))))) (from ! (stop !)) (init ! 17 refl (tt, wt .1 .1 .1 .0)) $
@@ -245,10 +248,10 @@ module _ {M : Type 1} (𝓤 : URA M) (H : Heap 𝓤) (A : Atoms 𝓤) (W : Given
       unfolding afterTurn
       ends st test =
           assigns ! (bin ! (load ! (from ! (stop !)) (look ! 8 refl)) (load ! (from ! (stop !)) (look ! 10 refl)) tt) (from ! (stop !)) (init ! 14 refl (tt, tt)) $
-          rewrite ! 14 (λ (t : Bool). ‵ (fat fullShare tyBool l₁₂ 0 (vbool t))) test refl $ leaves-loop ! (load ! (from ! (stop !)) (look ! 14 refl)) $ exec ! C Λ En pieces.t-7 (atRet En Post) $
+          rewrite ! 14 (λ (t : Bool). ‵ (fat fullShare tyBool l₁₃ 0 (vbool t))) test refl $ leaves-loop ! (load ! (from ! (stop !)) (look ! 14 refl)) $ exec ! C Λ En pieces.t-8 (atRet En Post) $
           assigns ! (of-opd ! (load ! (from ! (stop !)) (look ! 7 refl))) (from ! (stop !)) (init ! 23 refl (turn-typed (st .turn) (st .is))) $
-          returns ! (look ! 23 refl) $ forget ! 6 refl $ forget ! 7 refl $ forget ! 8 refl $ forget ! 9 refl $ forget ! 10 refl $ forget ! 11 refl $ forget ! 12 refl $ forget ! 14 refl $ forget ! 23 refl $ forget ! 24 refl $ forget ! 25 refl $ forget ! 26 refl $
-          move ! (23 ∷ 27 ∷ []) $ free1 ! $ move ! (9 ∷ 26 ∷ []) $ free1 ! $ move ! (9 ∷ 25 ∷ []) $ free1 ! $ move ! (9 ∷ 24 ∷ []) $ free1 ! $ move ! (9 ∷ 23 ∷ []) $ free1 ! $ move ! (19 ∷ 22 ∷ []) $ free1 ! $ move ! (6 ∷ 21 ∷ []) $ free1 ! $ move ! (6 ∷ 20 ∷ []) $ free1 ! $ move ! (6 ∷ 19 ∷ []) $ free1 ! $ move ! (6 ∷ 18 ∷ []) $ free1 ! $ move ! (15 ∷ 17 ∷ []) $ free1 ! $ move ! (15 ∷ 16 ∷ []) $ free1 ! $ move ! (6 ∷ 15 ∷ []) $ free1 ! $ move ! (6 ∷ 14 ∷ []) $ free1 ! $ move ! (6 ∷ 13 ∷ []) $ free1 ! $ move ! (6 ∷ 12 ∷ []) $ free1 ! $ move ! (6 ∷ 11 ∷ []) $ free1 ! $ move ! (6 ∷ 10 ∷ []) $ free1 ! $ move ! (6 ∷ 9 ∷ []) $ free1 ! $ move ! (6 ∷ 8 ∷ []) $ free1 ! $ move ! (6 ∷ 7 ∷ []) $ free1 ! $ free0 ! $ by ! (exits st (ltb-false (st .done) n test) gn is₀)
+          returns ! (look ! 23 refl) $ forget ! 6 refl $ forget ! 7 refl $ forget ! 8 refl $ forget ! 9 refl $ forget ! 10 refl $ forget ! 11 refl $ forget ! 12 refl $ forget ! 14 refl $ forget ! 23 refl $ forget ! 24 refl $ forget ! 25 refl $ forget ! 26 refl $ forget ! 27 refl $
+          move ! (23 ∷ 28 ∷ []) $ free1 ! $ move ! (9 ∷ 27 ∷ []) $ free1 ! $ move ! (9 ∷ 26 ∷ []) $ free1 ! $ move ! (9 ∷ 25 ∷ []) $ free1 ! $ move ! (9 ∷ 24 ∷ []) $ free1 ! $ move ! (19 ∷ 23 ∷ []) $ free1 ! $ move ! (21 ∷ 22 ∷ []) $ free1 ! $ move ! (6 ∷ 21 ∷ []) $ free1 ! $ move ! (6 ∷ 20 ∷ []) $ free1 ! $ move ! (6 ∷ 19 ∷ []) $ free1 ! $ move ! (6 ∷ 18 ∷ []) $ free1 ! $ move ! (15 ∷ 17 ∷ []) $ free1 ! $ move ! (15 ∷ 16 ∷ []) $ free1 ! $ move ! (6 ∷ 15 ∷ []) $ free1 ! $ move ! (6 ∷ 14 ∷ []) $ free1 ! $ move ! (6 ∷ 13 ∷ []) $ free1 ! $ move ! (6 ∷ 12 ∷ []) $ free1 ! $ move ! (6 ∷ 11 ∷ []) $ free1 ! $ move ! (6 ∷ 10 ∷ []) $ free1 ! $ move ! (6 ∷ 9 ∷ []) $ free1 ! $ move ! (6 ∷ 8 ∷ []) $ free1 ! $ move ! (6 ∷ 7 ∷ []) $ free1 ! $ free0 ! $ by ! (exits st (ltb-false (st .done) n test) gn is₀)
 
       turns : (st : State-of) → Sq W (At st) (runs C Λ En pieces.turn-1 (anyQ (After st)))
       turns st = either (ltb (st .done) n) refl
@@ -269,23 +272,24 @@ module _ {M : Type 1} (𝓤 : URA M) (H : Heap 𝓤) (A : Atoms 𝓤) (W : Given
       abbrev Lent-in : List (Item 𝓤)
       Lent-in = (‵ (flft κ₁ q₁) ⊛ (‵ (flft κ₂ q₂) ⊛ (‵ (flft κ₃ q₃) ⊛ ‵ ftrue))) ∷ ‵ (fsep (Own κ₁ x₁) (fsep (usize .own n (vint w64 n ∷ [])) (fsep (OwnMut 1 κ₂ x₂) (fsep (OwnMut 2 κ₃ x₃) (fsep (U.the-row .own start (turn-val start ∷ [])) ftrue))))) ∷ []
 
-      -- the parameters are passed: a local i stands at 2 · (20 − i)
+      -- the parameters are passed: a local i stands at 2 · (21 − i)
       abbrev Passed-in : List (Item 𝓤)
-      Passed-in = ‵ (froom (T′.mir erased) l₂₀ 0) ∷ ‵ (fdies (T′.mir erased) l₂₀)
-          ∷ ‵ (froom Lent l₁₉ 0) ∷ ‵ (fdies Lent l₁₉)
-          ∷ ‵ (froom ref l₁₈ 0) ∷ ‵ (fdies ref l₁₈)
-          ∷ ‵ (froom Lent l₁₇ 0) ∷ ‵ (fdies Lent l₁₇)
-          ∷ ‵ (froom ref l₁₆ 0) ∷ ‵ (fdies ref l₁₆)
-          ∷ ‵ (froom word l₁₅ 0) ∷ ‵ (fdies word l₁₅)
-          ∷ ‵ (froom Shown l₁₄ 0) ∷ ‵ (fdies Shown l₁₄)
-          ∷ ‵ (froom (T′.mir erased) l₁₃ 0) ∷ ‵ (fdies (T′.mir erased) l₁₃)
-          ∷ ‵ (froom tyBool l₁₂ 0) ∷ ‵ (fdies tyBool l₁₂)
+      Passed-in = ‵ (froom (T′.mir erased) l₂₁ 0) ∷ ‵ (fdies (T′.mir erased) l₂₁)
+          ∷ ‵ (froom Lent l₂₀ 0) ∷ ‵ (fdies Lent l₂₀)
+          ∷ ‵ (froom ref l₁₉ 0) ∷ ‵ (fdies ref l₁₉)
+          ∷ ‵ (froom Lent l₁₈ 0) ∷ ‵ (fdies Lent l₁₈)
+          ∷ ‵ (froom ref l₁₇ 0) ∷ ‵ (fdies ref l₁₇)
+          ∷ ‵ (froom word l₁₆ 0) ∷ ‵ (fdies word l₁₆)
+          ∷ ‵ (froom Shown l₁₅ 0) ∷ ‵ (fdies Shown l₁₅)
+          ∷ ‵ (froom (T′.mir erased) l₁₄ 0) ∷ ‵ (fdies (T′.mir erased) l₁₄)
+          ∷ ‵ (froom tyBool l₁₃ 0) ∷ ‵ (fdies tyBool l₁₃)
+          ∷ ‵ (froom word l₁₂ 0) ∷ ‵ (fdies word l₁₂)
           ∷ ‵ (froom word l₁₁ 0) ∷ ‵ (fdies word l₁₁)
-          ∷ ‵ (froom word l₁₀ 0) ∷ ‵ (fdies word l₁₀)
-          ∷ ‵ (froom S′.mir l₉ 0) ∷ ‵ (fdies S′.mir l₉)
-          ∷ ‵ (froom word l₈ 0) ∷ ‵ (fdies word l₈)
-          ∷ ‵ (froom U′.mir l₇ 0) ∷ ‵ (fdies U′.mir l₇)
-          ∷ ‵ (froom (T′.mir erased) l₆ 0) ∷ ‵ (fdies (T′.mir erased) l₆)
+          ∷ ‵ (froom S′.mir l₁₀ 0) ∷ ‵ (fdies S′.mir l₁₀)
+          ∷ ‵ (froom word l₉ 0) ∷ ‵ (fdies word l₉)
+          ∷ ‵ (froom U′.mir l₈ 0) ∷ ‵ (fdies U′.mir l₈)
+          ∷ ‵ (froom (T′.mir erased) l₇ 0) ∷ ‵ (fdies (T′.mir erased) l₇)
+          ∷ ‵ (froom word l₆ 0) ∷ ‵ (fdies word l₆)
           ∷ ‵ (fat fullShare U′.mir l₅ 0 (turn-val start)) ∷ ‵ (fdies U′.mir l₅)
           ∷ ‵ (fat fullShare Text l₄ 0 (bytes-val x₃)) ∷ ‵ (fdies Text l₄)
           ∷ ‵ (fat fullShare Medium l₃ 0 (bytes-val x₂)) ∷ ‵ (fdies Medium l₃)
@@ -299,15 +303,16 @@ module _ {M : Type 1} (𝓤 : URA M) (H : Heap 𝓤) (A : Atoms 𝓤) (W : Given
           let few : n ≤ 1024 = asked .0 in
           let fits : 4 * n < 2 ^ 64 = omega arith in
           let fits₂ : 2 + 4 * n < 2 ^ 64 = omega arith in
-          assigns ! (bin ! (lit ! tt) (load ! (from ! (stop !)) (look ! 36 refl)) (record { fits = fits })) (from ! (stop !)) (init ! 20 refl (tt, record { fits = fits })) $
+          assigns ! (of-opd ! (load ! (from ! (fld ! refl (fld ! refl (stop !)))) (look-in ! 32 (sub ! 0 refl (sub ! 1 refl (entire !)))))) (from ! (stop !)) (init ! 30 refl (tt, record { fits = count-fits })) $
+          assigns ! (bin ! (lit ! tt) (load ! (from ! (stop !)) (look ! 38 refl)) (record { fits = fits })) (from ! (stop !)) (init ! 20 refl (tt, record { fits = fits })) $
           assigns ! (bin ! (lit ! tt) (load ! (from ! (stop !)) (look ! 20 refl)) (record { fits = fits₂ })) (from ! (stop !)) (init ! 18 refl (tt, record { fits = fits₂ })) $
-          -- what is lent is put in front: a local i then stands at 6 + 2 · (20 − i)
-          move ! (42 ∷ 43 ∷ []) $ split ! $ move ! (1 ∷ []) $ split ! $ move ! (1 ∷ []) $ split ! $ move ! (1 ∷ []) $ forgo ! $ move ! (3 ∷ []) $ fsplit ! $ move ! (1 ∷ []) $ fsplit ! $ forgo ! $ fsplit ! $ move ! (1 ∷ []) $ fsplit ! $ move ! (1 ∷ []) $ forgo ! $ move ! (5 ∷ 2 ∷ 4 ∷ 1 ∷ 3 ∷ 0 ∷ []) $
-          makes-head ! mem run fm known-new κ₁ q₁ x₁ 2 (2 + 4 * n) (lit< tt) fits₂ (and-then ! (load ! (from ! (stop !)) (look ! 44 refl)) (and-then ! (lit ! tt) (and-then ! (load ! (from ! (stop !)) (look ! 24 refl)) (no-more !)))) (λ ish.
+          -- what is lent is put in front: a local i then stands at 6 + 2 · (21 − i)
+          move ! (44 ∷ 45 ∷ []) $ split ! $ move ! (1 ∷ []) $ split ! $ move ! (1 ∷ []) $ split ! $ move ! (1 ∷ []) $ forgo ! $ move ! (3 ∷ []) $ fsplit ! $ move ! (1 ∷ []) $ fsplit ! $ forgo ! $ fsplit ! $ move ! (1 ∷ []) $ fsplit ! $ move ! (1 ∷ []) $ forgo ! $ move ! (5 ∷ 2 ∷ 4 ∷ 1 ∷ 3 ∷ 0 ∷ []) $
+          makes-head ! mem run fm known-new κ₁ q₁ x₁ 2 (2 + 4 * n) (lit< tt) fits₂ (and-then ! (load ! (from ! (stop !)) (look ! 46 refl)) (and-then ! (lit ! tt) (and-then ! (load ! (from ! (stop !)) (look ! 24 refl)) (no-more !)))) (λ ish.
           land ! (from ! (stop !)) (init ! 34 refl (head-typed 2 (2 + 4 * n) (lit< tt) fits₂)) $
-          assigns ! (of-opd ! (load ! (from ! (stop !)) (look ! 36 refl))) (from ! (stop !)) (init ! 32 refl (turn-typed start is₀)) $
+          assigns ! (of-opd ! (load ! (from ! (stop !)) (look ! 38 refl))) (from ! (stop !)) (init ! 32 refl (turn-typed start is₀)) $
           assigns ! (of-opd ! (lit ! tt)) (from ! (stop !)) (init ! 30 refl (tt, record { fits = lit< tt })) $
-          keep ! (0 ∷ 1 ∷ 2 ∷ 3 ∷ 4 ∷ 5 ∷ 34 ∷ 32 ∷ 30 ∷ 44 ∷ 42 ∷ 40 ∷ 38 ∷ 28 ∷ 22 ∷ 20 ∷ 18 ∷ 16 ∷ 14 ∷ 12 ∷ 10 ∷ 8 ∷ 6 ∷ 46 ∷ 36 ∷ 26 ∷ 24 ∷ 47 ∷ 45 ∷ 43 ∷ 41 ∷ 39 ∷ 37 ∷ 35 ∷ 33 ∷ 31 ∷ 29 ∷ 27 ∷ 25 ∷ 23 ∷ 21 ∷ 19 ∷ 17 ∷ 15 ∷ 13 ∷ 11 ∷ 9 ∷ 7 ∷ []) $
+          keep ! (0 ∷ 1 ∷ 2 ∷ 3 ∷ 4 ∷ 5 ∷ 34 ∷ 32 ∷ 30 ∷ 46 ∷ 44 ∷ 42 ∷ 40 ∷ 28 ∷ 22 ∷ 20 ∷ 18 ∷ 16 ∷ 14 ∷ 12 ∷ 10 ∷ 8 ∷ 6 ∷ 48 ∷ 38 ∷ 26 ∷ 24 ∷ 36 ∷ 49 ∷ 47 ∷ 45 ∷ 43 ∷ 41 ∷ 39 ∷ 37 ∷ 35 ∷ 33 ∷ 31 ∷ 29 ∷ 27 ∷ 25 ∷ 23 ∷ 21 ∷ 19 ∷ 17 ∷ 15 ∷ 13 ∷ 11 ∷ 9 ∷ 7 ∷ []) $
           into ! $ blocks ! $ begins asked fits₂)
 
     walk : Required (x₁ .now) n (x₃ .now) start → ent 𝓤 (onEntry 𝓤 H A f.signature (κ₁, (κ₂, (κ₃, tt))) (q₁, (q₂, (q₃, tt))) (x₁, (n, (x₂, (x₃, (start, tt))))) (bytes-val x₁ ∷ [], (vint w64 n ∷ [], (bytes-val x₂ ∷ [], (bytes-val x₃ ∷ [], (turn-val start ∷ [], tt))))))
@@ -315,9 +320,9 @@ module _ {M : Type 1} (𝓤 : URA M) (H : Heap 𝓤) (A : Atoms 𝓤) (W : Given
     walk asked =
         qed W ((‵ (flft κ₁ q₁) ⊛ (‵ (flft κ₂ q₂) ⊛ (‵ (flft κ₃ q₃) ⊛ ‵ ftrue))) ∷ ‵ (fsep (Own κ₁ x₁) (fsep (usize .own n (vint w64 n ∷ [])) (fsep (OwnMut 1 κ₂ x₂) (fsep (OwnMut 2 κ₃ x₃) (fsep (U.the-row .own start (turn-val start ∷ [])) ftrue))))) ∷ []) ∵
         enter ! C Λ code.function (bytes-val x₁ ∷ vint w64 n ∷ bytes-val x₂ ∷ bytes-val x₃ ∷ turn-val start ∷ []) _ $
-        alloc1 ! (λ l₀. alloc1 ! (λ l₁. alloc1 ! (λ l₂. alloc1 ! (λ l₃. alloc1 ! (λ l₄. alloc1 ! (λ l₅. alloc1 ! (λ l₆. alloc1 ! (λ l₇. alloc1 ! (λ l₈. alloc1 ! (λ l₉. alloc1 ! (λ l₁₀. alloc1 ! (λ l₁₁. alloc1 ! (λ l₁₂. alloc1 ! (λ l₁₃. alloc1 ! (λ l₁₄. alloc1 ! (λ l₁₅. alloc1 ! (λ l₁₆. alloc1 ! (λ l₁₇. alloc1 ! (λ l₁₈. alloc1 ! (λ l₁₉. alloc1 ! (λ l₂₀. alloc0 ! $ params1 ! $
-        pass1 ! (init ! 38 refl (shr-slice-lawful 𝓤 H A W (named 0) κ₁ u8 .typed x₁ (bytes-val x₁ ∷ []) shared .0)) $ pass1 ! (init ! 36 refl (tt, record { fits = gn })) $ pass1 ! (init ! 34 refl (tt, (tt, (record { fits = room₂ .0 }, tt)))) $ pass1 ! (init ! 32 refl (tt, (tt, (record { fits = room₃ .0 }, tt)))) $ pass1 ! (init ! 30 refl (turn-typed start is₀)) $ pass0 ! $
-        opened l₀ l₁ l₂ l₃ l₄ l₅ l₆ l₇ l₈ l₉ l₁₀ l₁₁ l₁₂ l₁₃ l₁₄ l₁₅ l₁₆ l₁₇ l₁₈ l₁₉ l₂₀ asked)))))))))))))))))))))
+        alloc1 ! (λ l₀. alloc1 ! (λ l₁. alloc1 ! (λ l₂. alloc1 ! (λ l₃. alloc1 ! (λ l₄. alloc1 ! (λ l₅. alloc1 ! (λ l₆. alloc1 ! (λ l₇. alloc1 ! (λ l₈. alloc1 ! (λ l₉. alloc1 ! (λ l₁₀. alloc1 ! (λ l₁₁. alloc1 ! (λ l₁₂. alloc1 ! (λ l₁₃. alloc1 ! (λ l₁₄. alloc1 ! (λ l₁₅. alloc1 ! (λ l₁₆. alloc1 ! (λ l₁₇. alloc1 ! (λ l₁₈. alloc1 ! (λ l₁₉. alloc1 ! (λ l₂₀. alloc1 ! (λ l₂₁. alloc0 ! $ params1 ! $
+        pass1 ! (init ! 40 refl (shr-slice-lawful 𝓤 H A W (named 0) κ₁ u8 .typed x₁ (bytes-val x₁ ∷ []) shared .0)) $ pass1 ! (init ! 38 refl (tt, record { fits = gn })) $ pass1 ! (init ! 36 refl (tt, (tt, (record { fits = room₂ .0 }, tt)))) $ pass1 ! (init ! 34 refl (tt, (tt, (record { fits = room₃ .0 }, tt)))) $ pass1 ! (init ! 32 refl (turn-typed start is₀)) $ pass0 ! $
+        opened l₀ l₁ l₂ l₃ l₄ l₅ l₆ l₇ l₈ l₉ l₁₀ l₁₁ l₁₂ l₁₃ l₁₄ l₁₅ l₁₆ l₁₇ l₁₈ l₁₉ l₂₀ l₂₁ asked))))))))))))))))))))))
 
 module _ {M : Type 1} (𝓤 : URA M) (H : Heap 𝓤) (A : Atoms 𝓤) (W : Given 𝓤 H A) (mem : Memory → SProp 𝓤) (run : Routine → Fun 𝓤) (𝓣 : Tables 𝓤 H) where
   events-walks : Triple 𝓤 (𝓣 .C #new) (New 𝓤 H A mem run) → Triple 𝓤 (𝓣 .C #next) (Next 𝓤 H A mem run) → Triple 𝓤 (𝓣 .C #moved) (Moved 𝓤 H A mem run) → Triple 𝓤 (𝓣 .C #play-one) (One 𝓤 H A mem run)

@@ -2,7 +2,7 @@
 use mathlib.Core.Path.{sym, _∙_}
 use native.Mathlib.Omega.{arith}
 use borrow.Author.Tests.{not-true, not-false}
-use Rattle.player.proofs.Playing.{front-fits, refuses}
+use Rattle.player.proofs.Playing.{front-fits, refuses, as-table}
 use borrow.Author.Needs.{needs}
 use Rattle.player.proofs.play.play_over.Statement.{statement}
 use Rattle.player.proofs.play.play_over.Tie as tie
@@ -14,7 +14,7 @@ refusal-requires : tie.Need-refusal-requires
 refusal-requires c κs = search needs
 
 returns : tie.Need-returns
-returns c = refuses _ _ _ _ _ _ (sym (c .before .before .before .is-formed .ensures) ∙ not-true _ (c .before .before .if1 .taken)) (omega arith) (front-fits _ _ _ _ (omega arith) (c .refusal .ensures))
+returns c = refuses _ _ _ _ _ _ _ (as-table _ _ ∙ sym (c .before .before .before .is-formed .ensures) ∙ not-true _ (c .before .before .if1 .taken)) (omega arith) (front-fits _ _ _ _ (omega arith) (c .refusal .ensures))
 
 played-requires : tie.Need-played-requires
 played-requires c κs = sym (c .before .before .before .is-formed .ensures) ∙ not-false _ (c .before .before .if1 .left)

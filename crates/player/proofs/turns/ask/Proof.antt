@@ -1,7 +1,8 @@
 -- `ask` meets its contract. Assumes nothing.
+use mathlib.Core.Path.{refl}
 use native.Mathlib.Omega.{arith}
 use Rattle.wire.specs.Slices.{zeros}
-use Rattle.player.proofs.Answers.{ends-is, ends-whole}
+use Rattle.player.proofs.Answers.{ends-whole}
 use borrow.Author.Needs.{needs}
 use Rattle.player.proofs.turns.ask.Statement.{statement}
 use Rattle.player.proofs.turns.ask.Tie as tie
@@ -17,7 +18,7 @@ ended-requires c κs = search needs
 
 returns : tie.Need-returns
 unfolding zeros
-returns c = let r = c .before .before .in-parts in ends-is _ _ _ _ (c .ended .ensures) (ends-whole (r .result .answer) _ (r .result .unit) _ _ _ (omega arith) (r .ensures _))
+returns c = let r = c .before .before .before .in-parts in ends-whole _ _ _ _ _ _ _ _ (c .ended .ensures) (omega arith) refl (r .ensures _)
 
 pub ask-spec : {M : Type 1} → statement M
 ask-spec = tie.close (tie.spec slice-aggregate-in-parts in-parts-requires ended-requires returns)

@@ -52,7 +52,7 @@ returns c =
     let n : a .body + a .r .len - a .body ≡ a .r .len = omega arith in
     let few = few-lent _ _ _ (r .ensures) in
     turned-as _ _ _ _ _ _ _ _ _ _ _ n
-    (turned (r .result .answer) (r .result .device) (r .result .unit) _ (take (r .result .lent) (r .result .buffer)) _ _ _ _ _ _ (r .ensures .told) few (wrote-fits _ _ _ _ _ _ (and-true _ _ (room-there _ _ (c .before .before .before .before .before .before .before .before .before .before .before .before .before .before .before .before .before .before .before .pre .2)) (le-leb _ _ few)) (c .before .before .line .ensures)))
+    (turned (r .result .answer) (r .result .device) (r .result .units) _ (take (r .result .lent) (r .result .buffer)) _ _ _ _ _ _ (r .ensures .told) few (wrote-fits _ _ _ _ _ _ (and-true _ _ (room-there _ _ (c .before .before .before .before .before .before .before .before .before .before .before .before .before .before .before .before .before .before .before .pre .2)) (le-leb _ _ few)) (c .before .before .line .ensures)))
 
 pub play-one-spec : {M : Type 1} → statement M
 play-one-spec =

@@ -1,6 +1,6 @@
 -- `reset` meets its contract. Assumes nothing.
 use mathlib.Core.Path.{refl}
-use Rattle.player.proofs.Answers.{ends-is, ends-none}
+use Rattle.player.proofs.Answers.{ends-none}
 use borrow.Author.Needs.{needs}
 use Rattle.player.proofs.turns.reset.Statement.{statement}
 use Rattle.player.proofs.turns.reset.Tie as tie
@@ -12,7 +12,7 @@ ended-requires : tie.Need-ended-requires
 ended-requires c κs = search needs
 
 returns : tie.Need-returns
-returns c = λ m. let r = c .before .reset-parts in ends-is _ _ m _ (c .ended .ensures) (ends-none (r .result .answer) _ (r .result .unit) _ m _ refl (r .ensures m))
+returns c = λ m. let r = c .before .reset-parts in ends-none _ _ (r .result) _ _ _ _ m (c .ended .ensures) refl refl (r .ensures m)
 
 pub reset-spec : {M : Type 1} → statement M
 reset-spec = tie.close (tie.spec reset-parts-requires ended-requires returns)

@@ -1,5 +1,5 @@
 -- `kind_of` meets its contract. Assumes nothing.
-use borrow.Author.Tests.{eq-eqb, ne-eqb, le-leb, lt-leb}
+use borrow.Author.Tests.{eq-eqb, ne-eqb, le-leb, lt-leb, lt-ltb, le-ltb}
 use Rattle.wire.specs.Choice.{if_then_else_, _and_}
 use Rattle.machine.specs.Units.{switchFits}
 use Rattle.recording.specs.Format.{kindOf}
@@ -48,16 +48,20 @@ returns-10 c = simp (eq-eqb _ _ (c .before .before .before .before .before .befo
 
 returns-11 : tie.Need-returns-11
 unfolding kindOf if_then_else_ _and_ switchFits
-returns-11 c = simp (eq-eqb _ _ (c .before .before .before .before .before .before .before .if1 .left), ne-eqb _ _ (c .before .before .before .before .before .before .if2 .left), ne-eqb _ _ (c .before .before .before .before .before .if4 .left), ne-eqb _ _ (c .before .before .before .before .if6 .left), ne-eqb _ _ (c .before .before .before .if8 .left), eq-eqb _ _ (c .before .before .if10 .taken), eq-eqb _ _ (c .before .if11 .left), le-leb _ 1 (c .if12 .taken))
+returns-11 c = simp (eq-eqb _ _ (c .before .before .before .before .before .before .before .if1 .left), ne-eqb _ _ (c .before .before .before .before .before .before .if2 .left), ne-eqb _ _ (c .before .before .before .before .before .if4 .left), ne-eqb _ _ (c .before .before .before .before .if6 .left), ne-eqb _ _ (c .before .before .before .if8 .left), eq-eqb _ _ (c .before .before .if10 .taken), eq-eqb _ _ (c .before .if11 .left), lt-leb _ 1 (c .if12 .taken))
 
 returns-12 : tie.Need-returns-12
 unfolding kindOf if_then_else_ _and_ switchFits
-returns-12 c = simp (eq-eqb _ _ (c .before .before .before .before .before .before .before .if1 .left), ne-eqb _ _ (c .before .before .before .before .before .before .if2 .left), ne-eqb _ _ (c .before .before .before .before .before .if4 .left), ne-eqb _ _ (c .before .before .before .before .if6 .left), ne-eqb _ _ (c .before .before .before .if8 .left), eq-eqb _ _ (c .before .before .if10 .taken), eq-eqb _ _ (c .before .if11 .left), lt-leb _ 1 (c .if12 .left))
+returns-12 c = simp (eq-eqb _ _ (c .before .before .before .before .before .before .before .before .if1 .left), ne-eqb _ _ (c .before .before .before .before .before .before .before .if2 .left), ne-eqb _ _ (c .before .before .before .before .before .before .if4 .left), ne-eqb _ _ (c .before .before .before .before .before .if6 .left), ne-eqb _ _ (c .before .before .before .before .if8 .left), eq-eqb _ _ (c .before .before .before .if10 .taken), eq-eqb _ _ (c .before .before .if11 .left), le-leb _ 1 (c .before .if12 .left), lt-ltb _ _ (c .if13 .taken))
 
 returns-13 : tie.Need-returns-13
+unfolding kindOf if_then_else_ _and_ switchFits
+returns-13 c = simp (eq-eqb _ _ (c .before .before .before .before .before .before .before .before .if1 .left), ne-eqb _ _ (c .before .before .before .before .before .before .before .if2 .left), ne-eqb _ _ (c .before .before .before .before .before .before .if4 .left), ne-eqb _ _ (c .before .before .before .before .before .if6 .left), ne-eqb _ _ (c .before .before .before .before .if8 .left), eq-eqb _ _ (c .before .before .before .if10 .taken), eq-eqb _ _ (c .before .before .if11 .left), le-leb _ 1 (c .before .if12 .left), le-ltb _ _ (c .if13 .left))
+
+returns-14 : tie.Need-returns-14
 unfolding kindOf if_then_else_
-returns-13 c = simp (eq-eqb _ _ (c .before .before .before .before .before .if1 .left), ne-eqb _ _ (c .before .before .before .before .if2 .left), ne-eqb _ _ (c .before .before .before .if4 .left), ne-eqb _ _ (c .before .before .if6 .left), ne-eqb _ _ (c .before .if8 .left), ne-eqb _ _ (c .if10 .left))
+returns-14 c = simp (eq-eqb _ _ (c .before .before .before .before .before .if1 .left), ne-eqb _ _ (c .before .before .before .before .if2 .left), ne-eqb _ _ (c .before .before .before .if4 .left), ne-eqb _ _ (c .before .before .if6 .left), ne-eqb _ _ (c .before .if8 .left), ne-eqb _ _ (c .if10 .left))
 
 pub kind-of-spec : {M : Type 1} → statement M
 kind-of-spec =
-    tie.close (tie.spec returns returns-2 returns-3 returns-4 returns-5 returns-6 returns-7 returns-8 returns-9 returns-10 returns-11 returns-12 returns-13)
+    tie.close (tie.spec returns returns-2 returns-3 returns-4 returns-5 returns-6 returns-7 returns-8 returns-9 returns-10 returns-11 returns-12 returns-13 returns-14)

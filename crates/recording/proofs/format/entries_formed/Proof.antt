@@ -11,11 +11,11 @@ use Rattle.recording.proofs.format.entries_formed.Statement.{statement}
 use Rattle.recording.proofs.format.entries_formed.Tie as tie
 
 abbrev Inv-loop : tie.InvT-loop
-Inv-loop s count left₀ entry₀ body₀ left entry body =
-    Place s left entry body × (formed count (drop 2 s) (drop (2 + 4 * count) s) ≡ formed left (drop entry s) (drop body s))
+Inv-loop s count units left₀ entry₀ body₀ left entry body =
+    Place s left entry body × (formed units count (drop 2 s) (drop (2 + 4 * count) s) ≡ formed units left (drop entry s) (drop body s))
 
 abbrev μ-loop : tie.MeasureT-loop
-μ-loop s count left₀ entry₀ body₀ left entry body = left
+μ-loop s count units left₀ entry₀ body₀ left entry body = left
 
 mul-body : tie.Need-mul-body Inv-loop μ-loop
 mul-body c = omega arith
@@ -35,7 +35,7 @@ is-kind-requires c κs = search needs
 returns : tie.Need-returns Inv-loop μ-loop
 returns c =
     let l = c .before .before .before .before .loop in
-    sym (l .inv .1 ∙ unread _ _ _ _ _ (same-reading _ _ (c .before .before .read-at .ensures)) (omega arith) (l .inv .0) (sym (c .before .is-kind .ensures) ∙ not-true _ (c .if1 .taken)))
+    sym (l .inv .1 ∙ unread _ _ _ _ _ _ (same-reading _ _ (c .before .before .read-at .ensures)) (omega arith) (l .inv .0) (sym (c .before .is-kind .ensures) ∙ not-true _ (c .if1 .taken)))
 
 sub-left : tie.Need-sub-left Inv-loop μ-loop
 sub-left c = omega arith
@@ -46,14 +46,14 @@ loop-less c = omega arith
 loop-again : tie.Need-loop-again Inv-loop μ-loop
 loop-again c =
     let l = c .before .before .before .before .loop in
-    let f = first _ _ _ _ _ (same-reading _ _ (c .before .before .read-at .ensures)) (omega arith) (l .inv .0) (sym (c .before .is-kind .ensures) ∙ not-false _ (c .if1 .left)) in
+    let f = first _ _ _ _ _ _ (same-reading _ _ (c .before .before .read-at .ensures)) (omega arith) (l .inv .0) (sym (c .before .is-kind .ensures) ∙ not-false _ (c .if1 .left)) in
     (f .next, l .inv .1 ∙ f .formed)
 
 returns-2 : tie.Need-returns-2 Inv-loop μ-loop
 returns-2 c =
     let l = c .before .loop in
     let done : l .left ≡ 0 = omega arith in
-    sym (l .inv .1 ∙ ap (λ (n : ℕ). formed n (drop (l .entry) (c .before .before .before .args .s .now)) (drop (l .body) (c .before .before .before .args .s .now))) done ∙ formed-end _ _ _ (l .inv .0 .bodies))
+    sym (l .inv .1 ∙ ap (λ (n : ℕ). formed (c .before .before .before .args .units) n (drop (l .entry) (c .before .before .before .args .s .now)) (drop (l .body) (c .before .before .before .args .s .now))) done ∙ formed-end _ _ _ _ (l .inv .0 .bodies))
 
 pub entries-formed-spec : {M : Type 1} → statement M
 entries-formed-spec =

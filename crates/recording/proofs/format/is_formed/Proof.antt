@@ -52,7 +52,7 @@ returns-5 c =
     let few : countOf s ≤ 1024 = omega arith in
     let room : 2 + 4 * countOf s ≤ length s = omega arith in
     c .entries-formed .ensures
-    ∙ ap (λ (k : ℕ). formed k (drop 2 s) (drop (2 + 4 * k) s)) n
+    ∙ ap (λ (k : ℕ). formed (c .before .before .before .before .before .before .before .args .units) k (drop 2 s) (drop (2 + 4 * k) s)) n
     ∙ sym (simp (le-leb 2 _ (c .before .before .before .before .before .if1 .left), le-leb _ _ (c .before .before .before .before .if2 .left), le-leb _ _ few, le-leb _ _ room))
 
 pub is-formed-spec : {M : Type 1} → statement M

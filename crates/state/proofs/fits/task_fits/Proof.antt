@@ -1,12 +1,22 @@
 -- `task_fits` meets its contract. Assumes nothing.
 use mathlib.Core.Path.{sym}
-use native.Mathlib.Omega.{arith}
-use borrow.Author.Tests.{le-ltb}
+use borrow.Author.Tests.{lt-ltb, le-ltb}
 use Rattle.wire.specs.Choice.{_and_}
-use Rattle.machine.specs.Fits.{taskFits, stageFits, lunFits}
+use Rattle.machine.specs.Fits.{taskFits, stageFits}
+use Rattle.units.proofs.Held.{length-table}
 use borrow.Author.Needs.{needs}
 use Rattle.state.proofs.fits.task_fits.Statement.{statement}
 use Rattle.state.proofs.fits.task_fits.Tie as tie
+
+cast-if1 : tie.Need-cast-if1
+cast-if1 c = search needs
+
+returns : tie.Need-returns
+unfolding taskFits stageFits _and_
+returns c = simp (length-table (c .before .args .units), le-ltb _ _ (c .if1 .taken))
+
+unit-at-requires : tie.Need-unit-at-requires
+unit-at-requires c κs = search needs
 
 enum-told : tie.Need-enum-told
 enum-told c = search needs
@@ -14,19 +24,11 @@ enum-told c = search needs
 enum-known-stage : tie.Need-enum-known-stage
 enum-known-stage c = search needs
 
-returns : tie.Need-returns
-unfolding taskFits stageFits lunFits _and_
-returns c = simp (c .before .before .stage .given .1, le-ltb (c .before .before .before .before .args .task .lun) 1 (omega (arith, c .if1 .taken)))
-
 out-fits-requires : tie.Need-out-fits-requires
 out-fits-requires c κs = search needs
 
 enum-known-stage-2 : tie.Need-enum-known-stage-2
 enum-known-stage-2 c = search needs
-
-returns-2 : tie.Need-returns-2
-unfolding taskFits stageFits lunFits _and_
-returns-2 c = simp (c .before .before .stage2 .given .1, le-ltb (c .before .before .before .before .args .task .lun) 1 (omega (arith, c .if2 .taken)))
 
 cast-in-fits : tie.Need-cast-in-fits
 cast-in-fits c = search needs
@@ -55,39 +57,37 @@ in-fits-requires-2 c κs = search needs
 enum-told-2 : tie.Need-enum-told-2
 enum-told-2 c = search needs
 
+returns-2 : tie.Need-returns-2
+unfolding taskFits stageFits _and_
+returns-2 c = simp (length-table (c .before .before .before .before .args .units), lt-ltb _ _ (c .before .before .before .if1 .left), c .enum-told .given .1)
+
 returns-3 : tie.Need-returns-3
-unfolding taskFits stageFits lunFits _and_
-returns-3 c = simp (c .enum-told .given .1)
+unfolding taskFits stageFits _and_
+returns-3 c = simp (length-table (c .before .before .before .before .before .before .args .units), lt-ltb _ _ (c .before .before .before .before .before .if1 .left), c .before .before .stage .given .1, sym (c .before .before .before .before .unit-at .ensures)) (c .out-fits .ensures)
 
 returns-4 : tie.Need-returns-4
-unfolding taskFits stageFits lunFits _and_
-returns-4 c =
-    simp (c .before .before .before .stage .given .1, c .before .if1 .left) (c .out-fits .ensures)
+unfolding taskFits stageFits _and_
+returns-4 c = simp (length-table (c .before .before .before .before .before .before .args .units), lt-ltb _ _ (c .before .before .before .before .before .if1 .left), c .before .before .stage2 .given .1, sym (c .before .before .before .before .unit-at .ensures)) (c .in-fits .ensures)
 
 returns-5 : tie.Need-returns-5
-unfolding taskFits stageFits lunFits _and_
-returns-5 c =
-    simp (c .before .before .before .stage2 .given .1, c .before .if2 .left) (c .in-fits .ensures)
+unfolding taskFits stageFits _and_
+returns-5 c = simp (length-table (c .before .before .before .before .before .before .before .before .args .units), lt-ltb _ _ (c .before .before .before .before .before .before .before .if1 .left), c .before .before .before .before .stage3 .given .1, sym (c .before .before .kind-of .ensures), sym (c .before .reply-size .ensures)) (c .in-fits2 .ensures)
 
 returns-6 : tie.Need-returns-6
-unfolding taskFits stageFits lunFits _and_
-returns-6 c =
-    simp (c .before .before .before .before .stage3 .given .1, sym (c .before .before .kind-of .ensures), sym (c .before .reply-size .ensures)) (c .in-fits2 .ensures)
-
-returns-7 : tie.Need-returns-7
-unfolding taskFits stageFits lunFits _and_
-returns-7 c = simp (c .enum-told2 .given .1)
+unfolding taskFits stageFits _and_
+returns-6 c = simp (length-table (c .before .before .before .before .args .units), lt-ltb _ _ (c .before .before .before .if1 .left), c .enum-told2 .given .1)
 
 pub task-fits-spec : {M : Type 1} → statement M
 task-fits-spec =
     tie.close
     (tie.spec
+    cast-if1
+    returns
+    unit-at-requires
     enum-told
     enum-known-stage
-    returns
     out-fits-requires
     enum-known-stage-2
-    returns-2
     cast-in-fits
     mul-in-fits
     in-fits-requires
@@ -97,8 +97,8 @@ task-fits-spec =
     cast-in-fits-2
     in-fits-requires-2
     enum-told-2
+    returns-2
     returns-3
     returns-4
     returns-5
-    returns-6
-    returns-7)
+    returns-6)

@@ -43,9 +43,15 @@ returns-6 c =
 returns-7 : tie.Need-returns-7
 unfolding inOrder check
 returns-7 c =
-    let k = c .before .before .before .before .before .before .args .checks in
-    simp (not-false (k .fits) (c .before .before .before .before .before .if1 .left), not-false (k .medium) (c .before .before .before .before .if2 .left), not-false (k .buffer) (c .before .before .before .if3 .left), not-false (k .packet) (c .before .before .if4 .left), not-false (k .setup) (c .before .if5 .left), not-false (k .configured) (c .if6 .left))
+    let k = c .before .before .before .before .before .before .before .args .checks in
+    simp (not-false (k .fits) (c .before .before .before .before .before .before .if1 .left), not-false (k .medium) (c .before .before .before .before .before .if2 .left), not-false (k .buffer) (c .before .before .before .before .if3 .left), not-false (k .packet) (c .before .before .before .if4 .left), not-false (k .setup) (c .before .before .if5 .left), not-false (k .configured) (c .before .if6 .left), not-true (k .unit) (c .if7 .taken))
+
+returns-8 : tie.Need-returns-8
+unfolding inOrder check
+returns-8 c =
+    let k = c .before .before .before .before .before .before .before .args .checks in
+    simp (not-false (k .fits) (c .before .before .before .before .before .before .if1 .left), not-false (k .medium) (c .before .before .before .before .before .if2 .left), not-false (k .buffer) (c .before .before .before .before .if3 .left), not-false (k .packet) (c .before .before .before .if4 .left), not-false (k .setup) (c .before .before .if5 .left), not-false (k .configured) (c .before .if6 .left), not-false (k .unit) (c .if7 .left))
 
 pub admit-spec : {M : Type 1} → statement M
 admit-spec =
-    tie.close (tie.spec returns returns-2 returns-3 returns-4 returns-5 returns-6 returns-7)
+    tie.close (tie.spec returns returns-2 returns-3 returns-4 returns-5 returns-6 returns-7 returns-8)
