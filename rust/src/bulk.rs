@@ -3,15 +3,17 @@
 use crate::cases::Case;
 use crate::device::{Answer, Device, Pending, Refusal, Source, Stage, BLOCK, PACKET};
 use crate::scsi::{self, Data, Sense};
+use crate::switch::Switch;
+use crate::unit::Unit;
 use crate::wrapper::{Cbw, Csw, Status, CSW_SIZE};
 
 impl Device {
     #[inline(never)]
-    pub fn bulk_out(&mut self, medium: &mut [u8], packet: &[u8]) -> Answer {
-        if !self.fits() {
+    pub fn bulk_out(&mut self, units: &mut [Unit], medium: &mut [u8], packet: &[u8]) -> Answer {
+        let Some(blocks) = self.blocks(units) else {
             return Answer::Refused(Refusal::Record);
-        }
-        if medium.len() != self.size() {
+        };
+        if medium.len() != blocks as usize * BLOCK {
             return Answer::Refused(Refusal::Medium);
         }
         if packet.len() > PACKET {
@@ -24,17 +26,17 @@ impl Device {
             return Answer::Stall;
         }
         match self.stage {
-            Stage::Ready => self.take_wrapper(packet),
-            _ => self.take_data(medium, packet),
+            Stage::Ready => self.take_wrapper(units, packet),
+            _ => self.take_data(units, medium, packet),
         }
     }
 
     #[inline(never)]
-    pub fn bulk_in(&mut self, medium: &[u8], buffer: &mut [u8]) -> Answer {
-        if !self.fits() {
+    pub fn bulk_in(&mut self, units: &[Unit], medium: &[u8], buffer: &mut [u8]) -> Answer {
+        let Some(blocks) = self.blocks(units) else {
             return Answer::Refused(Refusal::Record);
-        }
-        if medium.len() != self.size() {
+        };
+        if medium.len() != blocks as usize * BLOCK {
             return Answer::Refused(Refusal::Medium);
         }
         if buffer.len() < PACKET {
@@ -48,14 +50,14 @@ impl Device {
         }
         match self.stage {
             Stage::Status(status) => self.send_status(status, buffer),
-            _ => self.send_data(medium, buffer),
+            _ => self.send_data(units, medium, buffer),
         }
     }
 
-    fn take_wrapper(&mut self, packet: &[u8]) -> Answer {
-        match Cbw::accept(packet) {
+    fn take_wrapper(&mut self, units: &mut [Unit], packet: &[u8]) -> Answer {
+        match Cbw::accept(packet, units.len()) {
             Some(cbw) => {
-                self.begin(&cbw);
+                self.begin(&mut units[usize::from(cbw.unit)], &cbw);
                 Answer::Ack
             }
             None => {
@@ -65,17 +67,19 @@ impl Device {
         }
     }
 
-    /// Decides the command and its meeting with what the host announces.
-    fn begin(&mut self, cbw: &Cbw) {
-        self.pending = Pending { tag: cbw.tag, announced: cbw.announced, residue: cbw.announced };
-        let outcome = scsi::decide(cbw.block, self.sense, self.blocks, self.switch);
+    /// Decides the unit's command and its meeting with what the host announces.
+    fn begin(&mut self, unit: &mut Unit, cbw: &Cbw) {
+        let Cbw { tag, announced, .. } = *cbw;
+        self.pending = Pending { tag, announced, residue: announced, unit: cbw.unit };
+        let switch = if unit.closed() { Switch::Closed } else { Switch::Open };
+        let outcome = scsi::decide(cbw.block, unit.sense(), unit.blocks, switch);
         let data = outcome.unwrap_or(Data::None);
         if Case::of(cbw, &data).is_phase_error() {
             // Found before the command ran: sense and medium stay.
             self.finish(Status::PhaseError, cbw.data_in);
             return;
         }
-        self.sense = outcome.err().unwrap_or(Sense::NONE);
+        unit.set_sense(outcome.err().unwrap_or(Sense::NONE));
         match data {
             Data::None => {
                 let status = if outcome.is_ok() { Status::Passed } else { Status::Failed };
@@ -108,13 +112,14 @@ impl Device {
 
     /// Gathers a packet in the part block, and stores the block once it is whole. A record that was never reached
     /// may have a transfer with nothing left: nothing is due then, in either direction.
-    fn take_data(&mut self, medium: &mut [u8], packet: &[u8]) -> Answer {
+    fn take_data(&mut self, units: &mut [Unit], medium: &mut [u8], packet: &[u8]) -> Answer {
         let Stage::DataOut { block, left: left @ 1.., held } = &mut self.stage else {
             return Answer::Nak;
         };
+        let unit = &mut units[usize::from(self.pending.unit)];
         let Ok(packet) = <&[u8; PACKET]>::try_from(packet) else {
             self.part = [0; BLOCK];
-            self.sense = Sense::DATA_PHASE_ERROR;
+            unit.set_sense(Sense::DATA_PHASE_ERROR);
             self.halt_out = true;
             self.stage = Stage::Status(Status::PhaseError);
             return Answer::Ack;
@@ -125,7 +130,7 @@ impl Device {
         if *held < BLOCK as u32 {
             return Answer::Ack;
         }
-        let place = *block as usize * BLOCK;
+        let place = unit.byte(*block * BLOCK as u32);
         medium[place..place + BLOCK].copy_from_slice(&self.part);
         self.part = [0; BLOCK];
         *held = 0;
@@ -139,19 +144,23 @@ impl Device {
     }
 
     /// Hands out the next packet, from the medium as it now is or from the reply.
-    fn send_data(&mut self, medium: &[u8], buffer: &mut [u8]) -> Answer {
+    fn send_data(&mut self, units: &[Unit], medium: &[u8], buffer: &mut [u8]) -> Answer {
         let Stage::DataIn { source, place, left: left @ 1.. } = &mut self.stage else {
             return Answer::Nak;
         };
         let count = (*left).min(PACKET as u32);
-        let (from, size) = (*place as usize, count as usize);
+        let size = count as usize;
         match source {
-            // Nearly always: a copy of fixed size, without a call.
-            Source::Medium if size == PACKET => {
-                buffer[..PACKET].copy_from_slice(&medium[from..from + PACKET]);
+            Source::Medium => {
+                let from = units[usize::from(self.pending.unit)].byte(*place);
+                // Nearly always: a copy of fixed size, without a call.
+                if size == PACKET {
+                    buffer[..PACKET].copy_from_slice(&medium[from..from + PACKET]);
+                } else {
+                    buffer[..size].copy_from_slice(&medium[from..from + size]);
+                }
             }
-            Source::Medium => buffer[..size].copy_from_slice(&medium[from..from + size]),
-            Source::Reply(reply) => reply.write(&self.identity, from, &mut buffer[..size]),
+            Source::Reply(reply) => reply.write(&self.identity, *place as usize, &mut buffer[..size]),
         }
         *place += count;
         *left -= count;

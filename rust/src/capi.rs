@@ -2,6 +2,7 @@
 
 use crate::device::Identity;
 use crate::record::Record;
+use crate::unit::Unit;
 use std::mem::{align_of, size_of};
 
 /// `collector_answer` of the C header.
@@ -21,12 +22,16 @@ unsafe extern "C" {
         vendor: u16,
         product: u16,
         release: u16,
+        units: *mut Unit,
+        unit_count: usize,
         medium: *const u8,
         medium_len: usize,
     ) -> CAnswer;
-    fn collector_bus_reset(record: *mut Record) -> CAnswer;
+    fn collector_bus_reset(record: *mut Record, units: *mut Unit, unit_count: usize) -> CAnswer;
     fn collector_control(
         record: *mut Record,
+        units: *mut Unit,
+        unit_count: usize,
         setup: *const u8,
         setup_len: usize,
         buffer: *mut u8,
@@ -34,6 +39,8 @@ unsafe extern "C" {
     ) -> CAnswer;
     fn collector_bulk_out(
         record: *mut Record,
+        units: *mut Unit,
+        unit_count: usize,
         medium: *mut u8,
         medium_len: usize,
         packet: *const u8,
@@ -41,44 +48,61 @@ unsafe extern "C" {
     ) -> CAnswer;
     fn collector_bulk_in(
         record: *mut Record,
+        units: *const Unit,
+        unit_count: usize,
         medium: *const u8,
         medium_len: usize,
         buffer: *mut u8,
         buffer_len: usize,
     ) -> CAnswer;
-    fn collector_set_switch(record: *mut Record, position: u8) -> CAnswer;
+    fn collector_set_switch(
+        record: *mut Record,
+        units: *mut Unit,
+        unit_count: usize,
+        position: u8,
+        unit: u8,
+    ) -> CAnswer;
 }
 
 // SAFETY of all six calls: a slice's pointer is valid for its length and not null, exclusive where the callee
-// writes, and any bytes are a record.
+// writes, and any bytes are a record and a unit.
 
 #[inline]
-pub fn make(record: &mut Record, identity: Identity, medium: &[u8]) -> CAnswer {
+pub fn make(record: &mut Record, identity: Identity, units: &mut [Unit], medium: &[u8]) -> CAnswer {
     let Identity { number, vendor, product, release } = identity;
-    unsafe { collector_make(record, number, vendor, product, release, medium.as_ptr(), medium.len()) }
+    let (table, count) = (units.as_mut_ptr(), units.len());
+    unsafe {
+        collector_make(record, number, vendor, product, release, table, count, medium.as_ptr(), medium.len())
+    }
 }
 
 #[inline]
-pub fn bus_reset(record: &mut Record) -> CAnswer {
-    unsafe { collector_bus_reset(record) }
+pub fn bus_reset(record: &mut Record, units: &mut [Unit]) -> CAnswer {
+    unsafe { collector_bus_reset(record, units.as_mut_ptr(), units.len()) }
 }
 
 #[inline]
-pub fn control(record: &mut Record, setup: &[u8], buffer: &mut [u8]) -> CAnswer {
-    unsafe { collector_control(record, setup.as_ptr(), setup.len(), buffer.as_mut_ptr(), buffer.len()) }
+pub fn control(record: &mut Record, units: &mut [Unit], setup: &[u8], buffer: &mut [u8]) -> CAnswer {
+    let (table, count) = (units.as_mut_ptr(), units.len());
+    let (answer, size) = (buffer.as_mut_ptr(), buffer.len());
+    unsafe { collector_control(record, table, count, setup.as_ptr(), setup.len(), answer, size) }
 }
 
 #[inline]
-pub fn bulk_out(record: &mut Record, medium: &mut [u8], packet: &[u8]) -> CAnswer {
-    unsafe { collector_bulk_out(record, medium.as_mut_ptr(), medium.len(), packet.as_ptr(), packet.len()) }
+pub fn bulk_out(record: &mut Record, units: &mut [Unit], medium: &mut [u8], packet: &[u8]) -> CAnswer {
+    let (table, count) = (units.as_mut_ptr(), units.len());
+    let (bytes, size) = (medium.as_mut_ptr(), medium.len());
+    unsafe { collector_bulk_out(record, table, count, bytes, size, packet.as_ptr(), packet.len()) }
 }
 
 #[inline]
-pub fn bulk_in(record: &mut Record, medium: &[u8], buffer: &mut [u8]) -> CAnswer {
-    unsafe { collector_bulk_in(record, medium.as_ptr(), medium.len(), buffer.as_mut_ptr(), buffer.len()) }
+pub fn bulk_in(record: &mut Record, units: &[Unit], medium: &[u8], buffer: &mut [u8]) -> CAnswer {
+    let (table, count) = (units.as_ptr(), units.len());
+    let (bytes, size) = (medium.as_ptr(), medium.len());
+    unsafe { collector_bulk_in(record, table, count, bytes, size, buffer.as_mut_ptr(), buffer.len()) }
 }
 
 #[inline]
-pub fn set_switch(record: &mut Record, position: u8) -> CAnswer {
-    unsafe { collector_set_switch(record, position) }
+pub fn set_switch(record: &mut Record, units: &mut [Unit], position: u8, unit: u8) -> CAnswer {
+    unsafe { collector_set_switch(record, units.as_mut_ptr(), units.len(), position, unit) }
 }

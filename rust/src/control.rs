@@ -1,12 +1,13 @@
 //! The control pipe (§ Control requests).
 
 use crate::device::{Answer, Device, Refusal, PACKET};
+use crate::unit::Unit;
 use crate::usb::{write_descriptor, Endpoint, Request};
 
 impl Device {
     #[inline(never)]
-    pub fn control(&mut self, setup: &[u8], buffer: &mut [u8]) -> Answer {
-        if !self.fits() {
+    pub fn control(&mut self, units: &mut [Unit], setup: &[u8], buffer: &mut [u8]) -> Answer {
+        if !self.fits(units) {
             return Answer::Refused(Refusal::Record);
         }
         if buffer.len() < PACKET {
@@ -16,19 +17,19 @@ impl Device {
             return Answer::Refused(Refusal::Setup);
         };
         match Request::read(setup) {
-            Some(request) => self.request(request, buffer),
+            Some(request) => self.request(request, units, buffer),
             None => Answer::Stall,
         }
     }
 
-    fn request(&mut self, request: Request, buffer: &mut [u8]) -> Answer {
+    fn request(&mut self, request: Request, units: &mut [Unit], buffer: &mut [u8]) -> Answer {
         match request {
             Request::SetAddress(address) if !self.configured => {
                 self.address = address;
                 Answer::Ack
             }
             Request::SetConfiguration(configured) => {
-                self.drop_command();
+                self.drop_command(units);
                 self.halt_in = false;
                 self.halt_out = false;
                 self.configured = configured;
@@ -48,10 +49,10 @@ impl Device {
             Request::ClearHalt(endpoint) if self.configured => self.set_halt(endpoint, false),
             Request::SetHalt(endpoint) if self.configured => self.set_halt(endpoint, true),
             Request::MassStorageReset if self.configured => {
-                self.drop_command();
+                self.drop_command(units);
                 Answer::Ack
             }
-            Request::GetMaxLun if self.configured => send(buffer, &[0]),
+            Request::GetMaxLun if self.configured => send(buffer, &[units.len() as u8 - 1]),
             Request::GetDescriptor { value, length } => {
                 Answer::Data(write_descriptor(&self.identity, value, length, buffer))
             }

@@ -1,19 +1,20 @@
 //! The device's state, its making, its bus reset, and the checks that every event shares.
 
-use crate::scsi::{Reply, Sense};
+use crate::scsi::Reply;
 use crate::switch::Switch;
+use crate::unit::{self, Unit, MAX_UNITS};
 use crate::wrapper::Status;
 
 pub const BLOCK: usize = 512;
 pub const PACKET: usize = 64;
-/// The most blocks of a medium (document 02, A5).
+/// The most blocks of a unit (document 02, A5 and A7).
 pub const MAX_BLOCKS: u32 = 1_048_576;
 pub const MAX_NUMBER: u64 = 999_999_999_999;
 
 // Places in the medium and bytes still due are kept in 32 bits.
-const _: () = assert!(MAX_BLOCKS as u64 * BLOCK as u64 <= u32::MAX as u64);
+const _: () = assert!(MAX_UNITS as u64 * MAX_BLOCKS as u64 * BLOCK as u64 <= u32::MAX as u64);
 
-/// Document 01's refusals, with their numbers.
+/// The refusals, with their numbers in document 01's table and those that document 02 adds to it.
 #[derive(Clone, Copy, Debug, PartialEq, Eq)]
 pub enum Refusal {
     Record = 10,
@@ -22,6 +23,8 @@ pub enum Refusal {
     Packet = 13,
     Setup = 14,
     Number = 15,
+    /// The switch event's unit is beyond the table (document 02, A7).
+    Unit = 18,
 }
 
 /// What an event gives back (§ Numbers that come back).
@@ -80,16 +83,17 @@ impl Identity {
     }
 }
 
-/// The command in hand: what its status wrapper will tell.
+/// The command in hand: what its status wrapper will tell, and the unit that it is for.
 #[derive(Clone, Copy, Debug, PartialEq, Eq)]
 pub(crate) struct Pending {
     pub tag: u32,
     pub announced: u32,
     pub residue: u32,
+    pub unit: u8,
 }
 
 impl Pending {
-    pub const NONE: Pending = Pending { tag: 0, announced: 0, residue: 0 };
+    pub const NONE: Pending = Pending { tag: 0, announced: 0, residue: 0, unit: 0 };
 }
 
 /// Where data-in bytes come from.
@@ -104,28 +108,25 @@ pub(crate) enum Source {
 pub(crate) enum Stage {
     /// A command wrapper is due.
     Ready,
-    /// `left` blocks from `block` on are due; `held` bytes of the first are in the part block.
+    /// `left` blocks of the unit from `block` on are due; `held` bytes of the first are in the part block.
     DataOut { block: u32, left: u32, held: u32 },
-    /// `left` bytes of the source from `place` on are due.
+    /// `left` bytes of the source from `place` on are due; the medium's places are the unit's own.
     DataIn { source: Source, place: u32, left: u32 },
     /// The status wrapper is due.
     Status(Status),
 }
 
-/// The collector's drive. The medium is lent to it event by event.
+/// The collector's drive. The table of its units and the medium are lent to it event by event.
 #[derive(Clone, Debug, PartialEq, Eq)]
 pub struct Device {
     pub(crate) identity: Identity,
-    pub(crate) blocks: u32,
     pub(crate) address: u8,
     pub(crate) configured: bool,
     pub(crate) halt_in: bool,
     pub(crate) halt_out: bool,
     /// Clear Feature has no effect until the command is dropped.
     pub(crate) locked: bool,
-    pub(crate) sense: Sense,
-    pub(crate) switch: Switch,
-    /// Not looked at where no command is in hand.
+    /// Where no command is in hand only its unit is looked at, which is in the table even then.
     pub(crate) pending: Pending,
     pub(crate) stage: Stage,
     /// The block being gathered; zeros where none is.
@@ -133,25 +134,25 @@ pub struct Device {
 }
 
 impl Device {
-    /// A fresh device for a medium whose length sets the number of blocks.
-    pub fn make(identity: Identity, medium: &[u8]) -> Result<Device, Refusal> {
-        let blocks = medium.len() / BLOCK;
-        if medium.is_empty() || !medium.len().is_multiple_of(BLOCK) || blocks > MAX_BLOCKS as usize {
+    /// A fresh device over the table's units and a medium of their size. Senses and switches of the table are not looked
+    /// at: once the device is made, every sense is zero and every switch open. A refusal keeps the table.
+    pub fn make(identity: Identity, units: &mut [Unit], medium: &[u8]) -> Result<Device, Refusal> {
+        let blocks = unit::parts(units).ok_or(Refusal::Record)?;
+        if medium.len() != blocks as usize * BLOCK {
             return Err(Refusal::Medium);
         }
         if identity.number > MAX_NUMBER {
             return Err(Refusal::Number);
         }
+        unit::clear_senses(units);
+        units.iter_mut().for_each(|unit| unit.write_switch = Switch::Open as u8);
         Ok(Device {
             identity,
-            blocks: blocks as u32,
             address: 0,
             configured: false,
             halt_in: false,
             halt_out: false,
             locked: false,
-            sense: Sense::NONE,
-            switch: Switch::Open,
             pending: Pending::NONE,
             stage: Stage::Ready,
             part: [0; BLOCK],
@@ -159,11 +160,11 @@ impl Device {
     }
 
     #[inline(never)]
-    pub fn bus_reset(&mut self) -> Answer {
-        if !self.fits() {
+    pub fn bus_reset(&mut self, units: &mut [Unit]) -> Answer {
+        if !self.fits(units) {
             return Answer::Refused(Refusal::Record);
         }
-        self.drop_command();
+        self.drop_command(units);
         self.halt_in = false;
         self.halt_out = false;
         self.address = 0;
@@ -171,13 +172,13 @@ impl Device {
         Answer::Ack
     }
 
-    /// § Control requests, "Dropping the command means". The halts and the switch stay.
-    pub(crate) fn drop_command(&mut self) {
+    /// § Control requests, "Dropping the command means". The halts and the switches stay; the senses of all units go.
+    pub(crate) fn drop_command(&mut self, units: &mut [Unit]) {
         self.stage = Stage::Ready;
         self.pending = Pending::NONE;
         self.locked = false;
         self.part = [0; BLOCK];
-        self.sense = Sense::NONE;
+        unit::clear_senses(units);
     }
 
     /// Halts both pipes until the command is dropped.
@@ -187,27 +188,34 @@ impl Device {
         self.locked = true;
     }
 
-    /// The unit's size in bytes.
-    pub(crate) fn size(&self) -> usize {
-        self.blocks as usize * BLOCK
+    /// Whether state and table fit together. Both come from outside with each event, so that each event asks.
+    pub(crate) fn fits(&self, units: &[Unit]) -> bool {
+        self.blocks(units).is_some()
     }
 
-    /// Whether the state fits together. The state comes from outside with each event, so that each event asks.
-    pub(crate) fn fits(&self) -> bool {
-        let idle = self.stage == Stage::Ready
-            && !(self.halt_in || self.halt_out || self.locked)
-            && self.sense.is_zero();
-        (1..=MAX_BLOCKS).contains(&self.blocks)
-            && self.identity.number <= MAX_NUMBER
+    /// The blocks of all units; `None` where state and table do not fit together.
+    pub(crate) fn blocks(&self, units: &[Unit]) -> Option<u32> {
+        let blocks = unit::parts(units)?;
+        let unit = units.get(usize::from(self.pending.unit))?;
+        let fits = self.identity.number <= MAX_NUMBER
             && self.address <= 0x7F
-            && (self.configured || idle)
+            && (self.configured || self.is_idle(units))
             && (!self.locked || (self.halt_in && self.halt_out))
-            && self.stage.fits(self.blocks, self.pending)
+            && self.stage.fits(unit.blocks, self.pending)
+            && units.iter().all(|unit| unit.switch().is_some());
+        fits.then_some(blocks)
+    }
+
+    /// What an unconfigured device is.
+    fn is_idle(&self, units: &[Unit]) -> bool {
+        self.stage == Stage::Ready
+            && !(self.halt_in || self.halt_out || self.locked)
+            && units.iter().all(|unit| unit.sense().is_zero())
     }
 }
 
 impl Stage {
-    /// `blocks` is within the limit, so that its bytes fit in 32 bits.
+    /// The unit's number of blocks is within the limit, so that its bytes fit in 32 bits.
     fn fits(&self, blocks: u32, pending: Pending) -> bool {
         match *self {
             Stage::Ready => true,

@@ -14,5 +14,6 @@ pub mod pages;
 pub mod record;
 pub mod scsi;
 pub mod switch;
+pub mod unit;
 pub mod usb;
 pub mod wrapper;

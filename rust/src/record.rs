@@ -24,32 +24,24 @@ pub struct Record {
     pub extra: u32,
     pub tag: u32,
     pub announced: u32,
-    pub blocks: u32,
-    pub sense_information: u32,
     pub stage: u8,
     pub flags: u8,
     pub address: u8,
-    pub sense_key: u8,
-    pub sense_asc: u8,
-    pub sense_ascq: u8,
-    pub write_switch: u8,
-    pub reserved1: u8,
+    /// The logical unit of the command in hand; 0 where none is.
+    pub unit: u8,
     pub part: [u8; 512],
-    pub reserved2: [u8; 4],
 }
 
-pub const SIZE: usize = 576;
+pub const SIZE: usize = 560;
 
 const _: () = {
     assert!(size_of::<Record>() == SIZE && align_of::<Record>() == 8);
     assert!(offset_of!(Record, vendor) == 8 && offset_of!(Record, reserved0) == 14);
     assert!(offset_of!(Record, residue) == 16 && offset_of!(Record, value) == 28);
     assert!(offset_of!(Record, extra) == 32 && offset_of!(Record, tag) == 36);
-    assert!(offset_of!(Record, blocks) == 44 && offset_of!(Record, sense_information) == 48);
-    assert!(offset_of!(Record, stage) == 52 && offset_of!(Record, flags) == 53);
-    assert!(offset_of!(Record, sense_key) == 55 && offset_of!(Record, sense_ascq) == 57);
-    assert!(offset_of!(Record, write_switch) == 58 && offset_of!(Record, reserved1) == 59);
-    assert!(offset_of!(Record, part) == 60 && offset_of!(Record, reserved2) == 572);
+    assert!(offset_of!(Record, announced) == 40 && offset_of!(Record, stage) == 44);
+    assert!(offset_of!(Record, flags) == 45 && offset_of!(Record, address) == 46);
+    assert!(offset_of!(Record, unit) == 47 && offset_of!(Record, part) == 48);
 };
 
 /// The bits of the record's flags.
@@ -99,18 +91,11 @@ impl Record {
         extra: 0,
         tag: 0,
         announced: 0,
-        blocks: 0,
-        sense_information: 0,
         stage: stage::READY,
         flags: 0,
         address: 0,
-        sense_key: 0,
-        sense_asc: 0,
-        sense_ascq: 0,
-        write_switch: Switch::Open as u8,
-        reserved1: 0,
+        unit: 0,
         part: [0; 512],
-        reserved2: [0; 4],
     };
 
     /// The record's bytes as C sees them.
@@ -121,7 +106,7 @@ impl Record {
 
     /// The record's bytes, zeros in the place of the reserved ones.
     fn meaning(&self) -> [u8; SIZE] {
-        let mut record = Record { reserved0: 0, reserved1: 0, reserved2: [0; 4], ..*self };
+        let mut record = Record { reserved0: 0, ..*self };
         *record.as_bytes_mut()
     }
 
@@ -146,23 +131,7 @@ impl Record {
         matches!(self.stage, stage::PASSED..=stage::PHASE_ERROR)
     }
 
-    /// The unit's sense.
-    pub fn sense(&self) -> Sense {
-        let information = self.sense_information;
-        Sense { information, ..Sense::new(self.sense_key, self.sense_asc, self.sense_ascq) }
-    }
-
-    /// Whether the write switch is closed.
-    pub fn closed(&self) -> bool {
-        self.switch() == Some(Switch::Closed)
-    }
-
-    /// `None` for a position that there is not.
-    pub fn switch(&self) -> Option<Switch> {
-        Switch::from_position(self.write_switch)
-    }
-
-    /// `None` for a stage over 10, for a position of the switch that there is not, and for a product page that the
+    /// `None` for a stage over 10, for a position that Mode Sense cannot have found, and for a product page that the
     /// device does not have.
     fn stage(&self) -> Option<Stage> {
         let data_in = |source| Stage::DataIn { source, place: self.place, left: self.left };
@@ -235,8 +204,8 @@ impl Record {
 impl Device {
     /// `None` where the record does not decode: flags over 15, a stage over 10, a place, left, value or extra that its
     /// stage does not use and that is not 0, a reply's sense of more than three bytes, a product page that is none of
-    /// the device's, or a switch, its own or that of Mode Sense, neither open nor closed. Whether it fits together is
-    /// for the events to ask.
+    /// the device's, or a switch of Mode Sense neither open nor closed. Whether it fits together, and with the table of
+    /// units, is for the events to ask.
     pub fn from_record(record: &Record) -> Option<Device> {
         let device = Device {
             identity: Identity {
@@ -245,15 +214,17 @@ impl Device {
                 product: record.product,
                 release: record.release,
             },
-            blocks: record.blocks,
             address: record.address,
             configured: record.configured(),
             halt_in: record.halt_in(),
             halt_out: record.halt_out(),
             locked: record.locked(),
-            sense: record.sense(),
-            switch: record.switch()?,
-            pending: Pending { tag: record.tag, announced: record.announced, residue: record.residue },
+            pending: Pending {
+                tag: record.tag,
+                announced: record.announced,
+                residue: record.residue,
+                unit: record.unit,
+            },
             stage: record.stage()?,
             part: record.part,
         };
@@ -270,14 +241,9 @@ impl Device {
             residue: self.pending.residue,
             tag: self.pending.tag,
             announced: self.pending.announced,
-            blocks: self.blocks,
-            sense_information: self.sense.information,
             flags: self.flags(),
             address: self.address,
-            sense_key: self.sense.key,
-            sense_asc: self.sense.asc,
-            sense_ascq: self.sense.ascq,
-            write_switch: self.switch as u8,
+            unit: self.pending.unit,
             part: self.part,
             ..Record::ZERO
         };

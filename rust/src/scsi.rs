@@ -1,4 +1,4 @@
-//! SCSI: the commands of the one logical unit, their sense and replies (§ Commands; document 02, A1, A2, A4, A8 and
+//! SCSI: the commands of a logical unit, their sense and replies (§ Commands; document 02, A1, A2, A4, A8 and
 //! A12).
 
 use crate::device::{Identity, BLOCK};

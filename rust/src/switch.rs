@@ -1,6 +1,7 @@
-//! The write switch (document 02, A4): its positions, and the event that moves it.
+//! The write switch of a unit (document 02, A4 and A7): its positions, and the event that moves it.
 
 use crate::device::{Answer, Device, Refusal};
+use crate::unit::Unit;
 
 /// The sealed switch's position. Nothing that comes over the bus moves it, no reset either.
 #[derive(Clone, Copy, Debug, PartialEq, Eq)]
@@ -22,16 +23,17 @@ impl Switch {
 }
 
 impl Device {
-    /// Taken in every state, and nothing else changes: a command in hand goes on as it began.
+    /// Taken in every state, and nothing else changes: a command in hand goes on as it began. That the unit is in the
+    /// table is asked last.
     #[inline(never)]
-    pub fn set_switch(&mut self, position: u8) -> Answer {
-        if !self.fits() {
+    pub fn set_switch(&mut self, units: &mut [Unit], position: u8, unit: u8) -> Answer {
+        if !self.fits(units) || Switch::from_position(position).is_none() {
             return Answer::Refused(Refusal::Record);
         }
-        let Some(switch) = Switch::from_position(position) else {
-            return Answer::Refused(Refusal::Record);
+        let Some(unit) = units.get_mut(usize::from(unit)) else {
+            return Answer::Refused(Refusal::Unit);
         };
-        self.switch = switch;
+        unit.write_switch = position;
         Answer::Ack
     }
 }

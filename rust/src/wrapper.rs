@@ -14,12 +14,14 @@ pub struct Cbw<'a> {
     pub announced: u32,
     /// The host's direction is in; without meaning where it announces 0.
     pub data_in: bool,
+    /// The logical unit.
+    pub unit: u8,
     pub block: &'a [u8; 16],
 }
 
 impl<'a> Cbw<'a> {
-    /// Reads a packet as a wrapper; `None` unless it is readable, for unit 0, and its block is long enough.
-    pub fn accept(packet: &'a [u8]) -> Option<Cbw<'a>> {
+    /// Reads a packet as a wrapper; `None` unless it is readable, for one of so many units, and its block is long enough.
+    pub fn accept(packet: &'a [u8], units: usize) -> Option<Cbw<'a>> {
         let packet: &[u8; CBW_SIZE] = packet.try_into().ok()?;
         let (header, block) = packet.split_first_chunk::<15>()?;
         let block: &[u8; 16] = block.try_into().ok()?;
@@ -29,11 +31,12 @@ impl<'a> Cbw<'a> {
             && unit & 0xF0 == 0
             && length & 0xE0 == 0
             && (1..=16).contains(&length);
-        let accepted = readable && unit == 0 && length >= scsi::block_length(block[0]);
+        let accepted = readable && usize::from(unit) < units && length >= scsi::block_length(block[0]);
         accepted.then(|| Cbw {
             tag: u32::from_le_bytes([header[4], header[5], header[6], header[7]]),
             announced: u32::from_le_bytes([header[8], header[9], header[10], header[11]]),
             data_in: flags & 0x80 != 0,
+            unit,
             block,
         })
     }

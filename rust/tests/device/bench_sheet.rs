@@ -3,6 +3,7 @@
 use crate::bench::{block10, wrapper, Bench};
 use ordinary::device::{Answer, Device, Identity, Refusal, BLOCK, MAX_NUMBER};
 use ordinary::record::Record;
+use ordinary::unit::{table, Unit};
 
 const RANGE: [u8; 3] = [0x05, 0x21, 0x00];
 const RESET: [u8; 8] = [0x21, 0xFF, 0, 0, 0, 0, 0, 0];
@@ -11,24 +12,25 @@ const RESET: [u8; 8] = [0x21, 0xFF, 0, 0, 0, 0, 0, 0];
 fn the_number_is_twelve_digits() {
     for (number, text) in [(42, "000000000042"), (0, "000000000000"), (MAX_NUMBER, "999999999999")] {
         let identity = Identity { number, vendor: 0, product: 0, release: 0 };
-        let mut device = Device::make(identity, &[0; BLOCK]).unwrap();
-        let mut buffer = [0; 64];
-        let answer = device.control(&[0x80, 0x06, 3, 3, 9, 4, 255, 0], &mut buffer);
-        assert_eq!((answer, &buffer[..2]), (Answer::Data(26), &[26, 3][..]));
-        let units: Vec<u16> = buffer[2..26].chunks(2).map(|c| u16::from_le_bytes([c[0], c[1]])).collect();
+        let string = Bench::with(identity, &[1]).control([0x80, 0x06, 3, 3, 9, 4, 255, 0]).unwrap();
+        assert_eq!(string[..2], [26, 3]);
+        let units: Vec<u16> = string[2..].chunks(2).map(|c| u16::from_le_bytes([c[0], c[1]])).collect();
         assert_eq!(String::from_utf16(&units).unwrap(), text);
     }
 }
 
 #[test]
 fn making_refuses_media_first_then_numbers() {
-    let identity = |number| Identity { number, vendor: 0, product: 0, release: 0 };
+    let make = |number, blocks, medium: &[u8]| {
+        let identity = Identity { number, vendor: 0, product: 0, release: 0 };
+        Device::make(identity, &mut table(&[blocks]), medium).map(|_| ())
+    };
     let large = vec![0; 1_048_577 * BLOCK];
     for medium in [&[][..], &[0; 511], &[0; 513], &large] {
-        assert_eq!(Device::make(identity(MAX_NUMBER + 1), medium), Err(Refusal::Medium));
+        assert_eq!(make(MAX_NUMBER + 1, 1, medium), Err(Refusal::Medium));
     }
-    assert_eq!(Device::make(identity(MAX_NUMBER + 1), &[0; 512]), Err(Refusal::Number));
-    assert!(Device::make(identity(MAX_NUMBER), &large[BLOCK..]).is_ok());
+    assert_eq!(make(MAX_NUMBER + 1, 1, &[0; 512]), Err(Refusal::Number));
+    assert_eq!(make(MAX_NUMBER, 1_048_576, &large[BLOCK..]), Ok(()));
 }
 
 #[test]
@@ -115,28 +117,30 @@ fn a_reset_drops_the_part_block() {
     for _ in 0..7 {
         bench.send(&[0xAA; 64]);
     }
-    assert_ne!(bench.device.to_record().part, [0; 512]);
-    assert_eq!(bench.device.bus_reset(), Answer::Ack);
-    assert_eq!(bench.device.to_record().part, [0; 512]);
+    assert_ne!(bench.record().part, [0; 512]);
+    assert_eq!(bench.bus_reset(), Answer::Ack);
+    assert_eq!(bench.record().part, [0; 512]);
     assert!(bench.medium.iter().all(|byte| *byte == 0));
 }
 
 #[test]
 fn checks_run_in_order_and_change_nothing() {
     let mut bench = Bench::new(2);
-    let mut device = bench.device.clone();
-    device.bus_reset();
-    let before = device.clone();
-    assert_eq!(device.bulk_in(&[], &mut []), Answer::Refused(Refusal::Medium));
-    assert_eq!(device.bulk_in(&bench.medium, &mut [0; 63]), Answer::Refused(Refusal::Buffer));
-    assert_eq!(device.bulk_in(&bench.medium, &mut [0; 64]), Answer::Silent);
-    assert_eq!(device.bulk_out(&mut [0; 512], &[0; 65]), Answer::Refused(Refusal::Medium));
-    assert_eq!(device.bulk_out(&mut bench.medium, &[0; 65]), Answer::Refused(Refusal::Packet));
-    assert_eq!(device.bulk_out(&mut bench.medium, &[0; 64]), Answer::Silent);
-    assert_eq!(device.control(&[0; 7], &mut [0; 63]), Answer::Refused(Refusal::Buffer));
-    assert_eq!(device.control(&[0; 7], &mut [0; 64]), Answer::Refused(Refusal::Setup));
-    assert_eq!(device, before);
+    bench.bus_reset();
+    let (mut device, mut units) = (bench.device.clone(), bench.units.clone());
+    let (own, units) = (&mut bench.medium, &mut units[..]);
+    assert_eq!(device.bulk_in(units, &[], &mut []), Answer::Refused(Refusal::Medium));
+    assert_eq!(device.bulk_in(units, own, &mut [0; 63]), Answer::Refused(Refusal::Buffer));
+    assert_eq!(device.bulk_in(units, own, &mut [0; 64]), Answer::Silent);
+    assert_eq!(device.bulk_out(units, &mut [0; 512], &[0; 65]), Answer::Refused(Refusal::Medium));
+    assert_eq!(device.bulk_out(units, own, &[0; 65]), Answer::Refused(Refusal::Packet));
+    assert_eq!(device.bulk_out(units, own, &[0; 64]), Answer::Silent);
+    assert_eq!(device.control(units, &[0; 7], &mut [0; 63]), Answer::Refused(Refusal::Buffer));
+    assert_eq!(device.control(units, &[0; 7], &mut [0; 64]), Answer::Refused(Refusal::Setup));
+    assert_eq!((&device, &units[..]), (&bench.device, &bench.units[..]));
     let mut none = Device::from_record(&Record::ZERO).unwrap();
-    assert_eq!(none.bus_reset(), Answer::Refused(Refusal::Record));
-    assert_eq!(none.control(&[], &mut []), Answer::Refused(Refusal::Record));
+    let none_fits = &mut [Unit::new(0, 0)];
+    assert_eq!(none.bus_reset(none_fits), Answer::Refused(Refusal::Record));
+    assert_eq!(none.bulk_in(none_fits, &[], &mut []), Answer::Refused(Refusal::Record));
+    assert_eq!(none.control(none_fits, &[], &mut []), Answer::Refused(Refusal::Record));
 }

@@ -159,10 +159,10 @@ fn the_longest_transfers_begin() {
     let mut bench = largest();
     let (block, bytes) = (LAST - 65_534, 65_535 * 512);
     bench.command(bytes, true, &block10(0x28, block, 65_535));
-    let record = bench.device.to_record();
+    let record = bench.record();
     assert_eq!((record.stage, record.place, record.left), (stage::DATA_IN, block * 512, bytes));
     assert_eq!(bench.ask(), Ok(vec![0; 64]));
-    assert_eq!(bench.device.to_record().residue, bytes - 64);
+    assert_eq!(bench.record().residue, bytes - 64);
     assert_eq!(bench.control([0x21, 0xFF, 0, 0, 0, 0, 0, 0]), Ok(vec![]));
     bench.command(bytes, false, &block10(0x2A, block, 65_535));
     assert_eq!(bench.send(&[0xFF; 10]), Answer::Ack);

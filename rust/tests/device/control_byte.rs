@@ -110,7 +110,7 @@ fn a_refused_write_takes_no_data() {
     assert_eq!(bench.send(&[0xAB; 64]), Answer::Nak);
     assert_eq!(bench.status(), (1024, 1));
     assert_eq!(bench.medium, before);
-    assert_eq!(bench.device.to_record().part, [0; BLOCK]);
+    assert_eq!(bench.record().part, [0; BLOCK]);
     // The next command works.
     write.begin(&mut bench);
     for _ in 0..16 {

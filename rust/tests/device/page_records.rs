@@ -4,6 +4,7 @@ use crate::bench::Bench;
 use crate::lent::{ask, refused};
 use ordinary::device::{Answer, Device, MAX_NUMBER};
 use ordinary::record::Record;
+use ordinary::unit::table;
 
 const STAGE: u8 = 10;
 /// The pages of collector 1,234 by their codes.
@@ -15,7 +16,7 @@ const PAGES: [(u32, &[u8]); 3] = [
 
 /// A page in hand; `residue` and `announced` allow for 64 bytes.
 fn sending(value: u32, place: u32, left: u32) -> Record {
-    let ready = Bench::new(1).device.to_record();
+    let ready = Bench::new(1).record();
     Record { number: 1234, stage: STAGE, value, place, left, residue: 64, announced: 64, ..ready }
 }
 
@@ -53,10 +54,9 @@ fn any_part_of_a_page_is_sent() {
 #[test]
 fn a_page_with_nothing_left_naks() {
     for (value, _) in PAGES {
-        let mut device = Device::from_record(&sending(value, 7, 0)).unwrap();
-        assert_eq!(device.bulk_in(&[0; 512], &mut [0; 64]), Answer::Nak);
-        assert_eq!(device.bulk_out(&mut [0; 512], &[0; 31]), Answer::Nak);
-        assert_eq!(device.to_record(), sending(value, 7, 0));
+        let mut bench = Bench::of(&sending(value, 7, 0), &table(&[1]));
+        assert_eq!((bench.ask(), bench.send(&[0; 31])), (Err(Answer::Nak), Answer::Nak));
+        assert_eq!(bench.record(), sending(value, 7, 0));
     }
 }
 

@@ -41,7 +41,7 @@ fn usb_digits(bench: &mut Bench) -> Vec<u8> {
 }
 
 fn collector(number: u64) -> Bench {
-    Bench::with(Identity { number, vendor: 0, product: 0, release: 0 }, 1)
+    Bench::with(Identity { number, vendor: 0, product: 0, release: 0 }, &[1])
 }
 
 /// A Verify past the unit's end, which leaves a range failure's sense.
@@ -183,8 +183,8 @@ fn a_page_that_does_not_meet_the_host_is_a_phase_error() {
             let mut bench = Bench::new(1);
             leave_range_sense(&mut bench);
             bench.command(announced, data_in, &page(code, length));
-            let record = bench.device.to_record();
-            assert_eq!([record.sense_key, record.sense_asc, record.sense_ascq], [0x05, 0x21, 0x00]);
+            let record = bench.record();
+            assert_eq!(bench.held().0, [0x05, 0x21, 0x00]);
             let halts = (announced > 0 && data_in, announced > 0 && !data_in);
             assert_eq!((record.halt_in(), record.halt_out()), halts, "{code:02X}, {announced}");
             bench.clear_halt(0x81);
@@ -217,14 +217,14 @@ fn a_page_in_hand_stands_in_the_record() {
     for (code, bytes) in PAGES {
         for left in [1, 5, bytes.len() as u32] {
             let mut bench = Bench::new(1);
-            let ready = bench.device.to_record();
+            let ready = bench.record();
             bench.command(64, true, &page(code, left as u16));
             let begun =
                 Record { residue: 64, announced: 64, tag: TAG, left, value: code.into(), stage: 10, ..ready };
-            assert_eq!(bench.device.to_record(), begun);
+            assert_eq!(bench.record(), begun);
             assert_eq!(bench.send(&[0; 31]), Answer::Nak);
             assert_eq!(bench.ask().unwrap(), bytes[..left as usize]);
-            let Record { stage, place, left: due, value, residue, .. } = bench.device.to_record();
+            let Record { stage, place, left: due, value, residue, .. } = bench.record();
             assert_eq!((stage, place, due, value), (stage::PASSED, 0, 0, 0));
             assert_eq!(residue, 64 - left);
         }
@@ -271,7 +271,7 @@ fn two_numbers_have_two_serial_pages() {
 #[test]
 fn the_pages_depend_on_the_number_alone() {
     let identity = Identity { number: 42, vendor: 0xFFFF, product: 0xABCD, release: 0x9999 };
-    let mut bench = Bench::with(identity, 300);
+    let mut bench = Bench::with(identity, &[300]);
     bench.medium.fill(0x5A);
     bench.command(0, false, &block10(0x2F, 300, 1));
     assert_eq!(bench.status(), (0, 1));

@@ -108,7 +108,7 @@ fn a_wrong_field_tells_no_block() {
         block[1] = 0x80;
         bench.command(0, false, &block);
         assert_eq!(bench.status(), (0, 1), "{block:02X?}");
-        assert_eq!(bench.device.to_record().sense_information, 0, "{block:02X?}");
+        assert_eq!(bench.held().1, 0, "{block:02X?}");
         assert_eq!(bench.sense_data(), other(FIELD), "{block:02X?}");
     }
 }
@@ -152,7 +152,7 @@ fn request_sense_cuts_and_clears() {
             refuse(&mut bench, 0x28, 0x0A0B_0C0D, 1);
             let sent = &whole[..whole.len().min(length.into())];
             bench.sends(sent.len() as u32 + room, &[0x03, 0, 0, 0, length, 0], sent);
-            assert_eq!(bench.device.to_record().sense_information, 0, "{length}");
+            assert_eq!(bench.held().1, 0, "{length}");
             assert_eq!(bench.sense_data(), other(NONE), "{length}");
         }
     }
@@ -164,9 +164,9 @@ fn the_reply_is_of_what_the_wrapper_found() {
     let mut bench = Bench::new(128);
     refuse(&mut bench, 0x28, 300, 1);
     bench.command(18, true, &[0x03, 0, 0, 0, 18, 0]);
-    let record = bench.device.to_record();
+    let record = bench.record();
     assert_eq!((record.stage, record.value, record.extra), (3, 0x00_21_05, 300));
-    assert!(record.sense().is_zero());
+    assert_eq!(bench.held(), (NONE, 0));
     assert_eq!(bench.ask().unwrap(), range_failure(300));
     assert_eq!(bench.status(), (0, 0));
     assert_eq!(bench.sense_data(), other(NONE));

@@ -31,13 +31,8 @@ fn locked() -> Bench {
     bench
 }
 
-fn held(bench: &Bench) -> ([u8; 3], u32) {
-    let record = bench.device.to_record();
-    ([record.sense_key, record.sense_asc, record.sense_ascq], record.sense_information)
-}
-
 fn assert_kept(bench: &Bench) {
-    assert_eq!(held(bench), ([0x05, 0x21, 0x00], BLOCK));
+    assert_eq!(bench.held(), ([0x05, 0x21, 0x00], BLOCK));
 }
 
 /// The next wrapper takes the block away, not the data or the status after it.
@@ -46,7 +41,7 @@ fn a_passed_command_takes_it() {
     for command in nine(3).into_iter().filter(|command| command.block[0] != 0x03) {
         let mut bench = failed();
         command.begin(&mut bench);
-        assert_eq!(held(&bench), (NONE, 0), "{:02X?}", command.block);
+        assert_eq!(bench.held(), (NONE, 0), "{:02X?}", command.block);
         command.pass(&mut bench);
         assert_eq!(bench.sense_data(), other(NONE), "{:02X?}", command.block);
     }
@@ -59,7 +54,7 @@ fn a_command_that_fails_otherwise_takes_it() {
     for (command, sense) in fields.into_iter().chain(codes) {
         let mut bench = failed();
         bench.command(0, false, &command.block);
-        assert_eq!(held(&bench), (sense, 0), "{:02X?}", command.block);
+        assert_eq!(bench.held(), (sense, 0), "{:02X?}", command.block);
         assert_eq!(bench.status(), (0, 1));
         assert_eq!(bench.sense_data(), other(sense), "{:02X?}", command.block);
     }
@@ -71,14 +66,14 @@ fn a_data_phase_error_tells_no_block() {
     let mut bench = failed();
     bench.command(512, false, &block10(0x2A, 0, 1));
     assert_eq!(bench.send(&[0xAB; 10]), Answer::Ack);
-    assert_eq!(held(&bench), (DATA_PHASE, 0));
+    assert_eq!(bench.held(), (DATA_PHASE, 0));
 }
 
 /// A name, and what drops the command.
 type Cause = (&'static str, fn(&mut Bench));
 
 const CAUSES: [Cause; 4] = [
-    ("bus reset", |bench| assert_eq!(bench.device.bus_reset(), Answer::Ack)),
+    ("bus reset", |bench| assert_eq!(bench.bus_reset(), Answer::Ack)),
     ("Mass Storage Reset", |bench| request(bench, MASS_STORAGE_RESET)),
     ("Set Configuration 1", |bench| request(bench, SET_CONFIGURATION)),
     ("Set Configuration 0", |bench| request(bench, SET_NO_CONFIGURATION)),
@@ -96,7 +91,7 @@ fn each_drop_takes_it() {
         for mut bench in [failing(), failed(), locked()] {
             assert_kept(&bench);
             drop(&mut bench);
-            assert_eq!(held(&bench), (NONE, 0), "{name}");
+            assert_eq!(bench.held(), (NONE, 0), "{name}");
             request(&mut bench, SET_CONFIGURATION);
             assert_eq!(bench.sense_data(), other(NONE), "{name}");
         }
@@ -109,7 +104,7 @@ fn a_reset_drops_the_reply() {
     let mut bench = failed();
     bench.command(18, true, &[0x03, 0, 0, 0, 18, 0]);
     request(&mut bench, MASS_STORAGE_RESET);
-    assert_eq!(bench.device.to_record().extra, 0);
+    assert_eq!(bench.record().extra, 0);
     assert_eq!(bench.ask(), Err(Answer::Nak));
     assert_eq!(bench.sense_data(), other(NONE));
 }
@@ -134,7 +129,7 @@ fn a_phase_error_leaves_it() {
         assert_kept(&bench);
         bench.clear_halt(0x81);
         assert_eq!(bench.status(), (command.announced, 2));
-        assert!(bench.device.to_record().locked());
+        assert!(bench.record().locked());
         assert_kept(&bench);
         assert_eq!(bench.send(&wrapper(18, true, &request_sense)), Answer::Stall);
         assert_kept(&bench);
@@ -144,7 +139,7 @@ fn a_phase_error_leaves_it() {
 #[test]
 fn the_lock_leaves_it() {
     let mut bench = locked();
-    assert!(bench.device.to_record().locked());
+    assert!(bench.record().locked());
     assert_kept(&bench);
     for endpoint in [0x81, 0x02] {
         bench.clear_halt(endpoint);

@@ -2,8 +2,9 @@
 //! it.
 
 use crate::bench::{block10, Bench};
-use ordinary::device::{Answer, Device, Identity, Refusal};
+use ordinary::device::{Answer, Refusal};
 use ordinary::record::Record;
+use ordinary::unit::Unit;
 
 pub const OPEN: u8 = 0;
 pub const CLOSED: u8 = 1;
@@ -44,9 +45,9 @@ const STATES: [Step; 13] = [
 ];
 
 const DROPS: [Step; 4] = [
-    ("bus reset", |bench| assert_eq!(bench.device.bus_reset(), Answer::Ack)),
+    ("bus reset", |bench| assert_eq!(bench.bus_reset(), Answer::Ack)),
     ("Mass Storage Reset", |bench| {
-        let configured = bench.device.to_record().configured();
+        let configured = bench.record().configured();
         let answer = if configured { Ok(vec![]) } else { Err(Answer::Stall) };
         assert_eq!(bench.control(MASS_STORAGE_RESET), answer);
     }),
@@ -67,7 +68,7 @@ fn reached(reach: fn(&mut Bench)) -> Bench {
 }
 
 fn position(bench: &Bench) -> u8 {
-    bench.device.to_record().write_switch
+    bench.units[0].write_switch
 }
 
 /// Carries a Mode Sense through.
@@ -80,10 +81,9 @@ fn shown(bench: &mut Bench) -> Vec<u8> {
 
 #[test]
 fn a_collector_is_made_with_the_switch_open() {
-    let identity = Identity { number: 42, vendor: 0, product: 0, release: 0 };
-    let device = Device::make(identity, &[0; 512]).unwrap();
-    assert_eq!(device.to_record().write_switch, OPEN);
-    assert_eq!(shown(&mut Bench::new(1)), SHOWN_OPEN);
+    let mut bench = Bench::new(1);
+    assert_eq!(position(&bench), OPEN);
+    assert_eq!(shown(&mut bench), SHOWN_OPEN);
 }
 
 /// It acks in every state, from each position to each, and changes nothing but the position: no sense is set, no halt
@@ -92,11 +92,11 @@ fn a_collector_is_made_with_the_switch_open() {
 fn the_event_sets_it_to_either() {
     for (name, reach) in STATES {
         let mut bench = reached(reach);
-        let (before, medium) = (bench.device.to_record(), bench.medium.clone());
-        assert_eq!(before.write_switch, OPEN, "{name}");
+        let (record, unit, medium) = (bench.record(), bench.units[0], bench.medium.clone());
+        assert_eq!(unit.write_switch, OPEN, "{name}");
         for write_switch in [OPEN, CLOSED, CLOSED, OPEN] {
             bench.set_switch(write_switch);
-            assert_eq!(bench.device.to_record(), Record { write_switch, ..before }, "{name}");
+            assert_eq!((bench.record(), bench.units[0]), (record, Unit { write_switch, ..unit }), "{name}");
             assert_eq!(bench.medium, medium, "{name}");
         }
     }
@@ -108,11 +108,11 @@ fn other_positions_are_number_10() {
         for found in [OPEN, CLOSED] {
             let mut bench = reached(reach);
             bench.set_switch(found);
-            let before = bench.device.clone();
+            let before = (bench.record(), bench.units[0]);
             for position in 2..=0xFF {
-                let answer = bench.device.set_switch(position);
+                let answer = bench.turn(position, 0);
                 assert_eq!(answer, Answer::Refused(Refusal::Record), "{name}, {position}");
-                assert_eq!(bench.device, before, "{name}, {position}");
+                assert_eq!((bench.record(), bench.units[0]), before, "{name}, {position}");
             }
         }
     }
@@ -176,9 +176,10 @@ fn a_bus_reset_leaves_the_position_alone() {
     for (name, reach) in STATES {
         let mut bench = reached(reach);
         bench.set_switch(CLOSED);
-        assert_eq!(bench.device.bus_reset(), Answer::Ack);
-        let fresh = Record { flags: 0, ..Bench::new(16).device.to_record() };
-        assert_eq!(bench.device.to_record(), Record { write_switch: CLOSED, ..fresh }, "{name}");
+        assert_eq!(bench.bus_reset(), Answer::Ack);
+        let fresh = Bench::new(16);
+        assert_eq!(bench.record(), Record { flags: 0, ..fresh.record() }, "{name}");
+        assert_eq!(bench.units, [Unit { write_switch: CLOSED, ..fresh.units[0] }], "{name}");
     }
 }
 
@@ -194,14 +195,15 @@ fn nothing_else_moves_it() {
         }
         assert_eq!(bench.control([0x80, 0x08, 0, 0, 0, 0, 1, 0]), Ok(vec![1]));
         assert_eq!(bench.control([0x00, 0x05, 5, 0, 0, 0, 0, 0]), Err(Answer::Stall));
-        assert_eq!(bench.device.control(&[0; 7], &mut [0; 64]), Answer::Refused(Refusal::Setup));
+        let answer = bench.device.control(&mut bench.units, &[0; 7], &mut [0; 64]);
+        assert_eq!(answer, Answer::Refused(Refusal::Setup));
         assert_eq!(bench.ask(), Err(Answer::Nak));
         assert_eq!(bench.send(&[0; 65]), Answer::Refused(Refusal::Packet));
         bench.command(0, false, &[0x1E, 0, 0, 0, 0, 0]);
         assert_eq!(bench.status(), (0, 0));
         bench.fails(0, &[0x1E, 0, 0, 0, 1, 0], [0x05, 0x24, 0x00]);
         assert_eq!(bench.send(&[]), Answer::Stall);
-        assert!(bench.device.to_record().locked());
+        assert!(bench.record().locked());
         assert_eq!(position(&bench), kept);
         request(&mut bench, SET_NO_CONFIGURATION);
         request(&mut bench, [0x00, 0x05, 5, 0, 0, 0, 0, 0]);

@@ -1,15 +1,16 @@
-//! The write switch in records (document 02, A4): its positions, and the one that Mode Sense found.
+//! The write switch in records and tables (document 02, A4): its positions, and the one that Mode Sense found.
 
 use crate::bench::Bench;
-use crate::lent::{ask, refused};
+use crate::lent::{ask_with, refused, refused_with};
 use crate::switch::{CLOSED, OPEN};
-use ordinary::device::{Answer, Device, Refusal};
-use ordinary::record::{flag, stage, Record, SIZE};
+use ordinary::device::{Answer, Refusal};
+use ordinary::record::{flag, stage, Record};
+use ordinary::unit::{Unit, SIZE};
 
 const WHOLE: [[u8; 4]; 2] = [[0x03, 0x00, 0x00, 0x00], [0x03, 0x00, 0x80, 0x00]];
 
 fn ready() -> Record {
-    Bench::new(4).device.to_record()
+    Bench::new(4).record()
 }
 
 /// A record that fits, in each stage. Where the stage has bytes due, some are.
@@ -25,22 +26,25 @@ fn sending(value: u32, place: u32, left: u32) -> Record {
     Record { stage: stage::MODE_SENSE, value, place, left, residue: 64, announced: 64, ..ready() }
 }
 
-/// The field takes the first of what were two reserved bytes: size and all other places stay.
+/// A unit of four blocks.
+fn unit(write_switch: u8) -> Unit {
+    Unit { write_switch, ..Unit::new(0, 4) }
+}
+
 #[test]
-fn the_switch_is_byte_58() {
-    let mut closed = Record { write_switch: CLOSED, ..Record::ZERO };
+fn the_switch_is_byte_16_of_its_unit() {
     let mut expected = [0; SIZE];
-    expected[58] = 1;
-    assert_eq!(*closed.as_bytes_mut(), expected);
-    assert_ne!(closed, Record::ZERO);
+    (expected[4], expected[16]) = (4, 1);
+    assert_eq!(*unit(CLOSED).as_bytes_mut(), expected);
+    assert_ne!(unit(CLOSED), unit(OPEN));
 }
 
 #[test]
 fn a_record_has_it_open_or_closed() {
     for record in stages() {
         for write_switch in 0..=0xFF {
-            let record = Record { write_switch, ..record };
-            assert_eq!(refused(&record), write_switch > 1, "stage {}, {write_switch}", record.stage);
+            let refused = refused_with(&record, &[unit(write_switch)]);
+            assert_eq!(refused, write_switch > 1, "stage {}, {write_switch}", record.stage);
         }
     }
 }
@@ -51,8 +55,8 @@ fn it_may_be_closed_in_every_state() {
     let halts = flag::CONFIGURED | flag::HALT_IN | flag::HALT_OUT;
     for flags in [0, flag::CONFIGURED, halts, halts | flag::LOCKED] {
         for write_switch in 0..=0xFF {
-            let record = Record { flags, write_switch, ..ready() };
-            assert_eq!(refused(&record), write_switch > 1, "flags {flags}, {write_switch}");
+            let refused = refused_with(&Record { flags, ..ready() }, &[unit(write_switch)]);
+            assert_eq!(refused, write_switch > 1, "flags {flags}, {write_switch}");
         }
     }
 }
@@ -61,16 +65,16 @@ fn it_may_be_closed_in_every_state() {
 #[test]
 fn the_event_asks_whether_the_record_fits() {
     let unfit = [
-        Record { address: 0x80, ..ready() },
-        Record { blocks: 0, ..ready() },
-        Record { flags: flag::HALT_IN, ..ready() },
-        Record { flags: flag::CONFIGURED | flag::LOCKED, write_switch: CLOSED, ..ready() },
+        (Record { address: 0x80, ..ready() }, unit(OPEN)),
+        (ready(), Unit::new(0, 0)),
+        (Record { flags: flag::HALT_IN, ..ready() }, unit(OPEN)),
+        (Record { flags: flag::CONFIGURED | flag::LOCKED, ..ready() }, unit(CLOSED)),
     ];
-    for record in unfit {
-        let mut device = Device::from_record(&record).unwrap();
+    for (record, unit) in unfit {
+        let mut bench = Bench::of(&record, &[unit]);
         for position in 0..=0xFF {
-            assert_eq!(device.set_switch(position), Answer::Refused(Refusal::Record), "{position}");
-            assert_eq!(device.to_record(), record, "{position}");
+            assert_eq!(bench.turn(position, 0), Answer::Refused(Refusal::Record), "{position}");
+            assert_eq!((bench.record(), bench.units[0]), (record, unit), "{position}");
         }
     }
 }
@@ -80,8 +84,7 @@ fn mode_sense_found_it_open_or_closed() {
     let bits = (0..32).map(|bit| 1 << bit);
     for value in (0..=0x3FF).chain(bits.clone()).chain(bits.map(|bit| bit | 1)).chain([u32::MAX]) {
         for write_switch in [OPEN, CLOSED] {
-            let record = Record { write_switch, ..sending(value, 0, 4) };
-            assert_eq!(refused(&record), value > 1, "{value:X}");
+            assert_eq!(refused_with(&sending(value, 0, 4), &[unit(write_switch)]), value > 1, "{value:X}");
         }
     }
 }
@@ -93,8 +96,9 @@ fn other_stages_have_no_position() {
         [stage::READY, stage::DATA_IN, stage::INQUIRY, stage::PASSED, stage::FAILED, stage::PHASE_ERROR];
     for record in stages().filter(|record| without.contains(&record.stage)) {
         for write_switch in [OPEN, CLOSED] {
-            assert!(!refused(&Record { write_switch, ..record }), "{}", record.stage);
-            assert!(refused(&Record { value: 1, write_switch, ..record }), "{}", record.stage);
+            let units = [unit(write_switch)];
+            assert!(!refused_with(&record, &units), "{}", record.stage);
+            assert!(refused_with(&Record { value: 1, ..record }, &units), "{}", record.stage);
         }
     }
 }
@@ -119,11 +123,9 @@ fn any_part_of_the_reply_is_sent() {
             for place in 0..4 {
                 for end in place + 1..=4 {
                     let left = (end - place) as u32;
-                    let record = Record { write_switch, ..sending(value, place as u32, left) };
-                    let (sent, after) = ask(&record);
+                    let (sent, after) = ask_with(&sending(value, place as u32, left), &[unit(write_switch)]);
                     assert_eq!(sent, whole[place..end]);
                     assert_eq!((after.stage, after.value), (stage::PASSED, 0));
-                    assert_eq!(after.write_switch, write_switch);
                 }
             }
         }
@@ -134,11 +136,10 @@ fn any_part_of_the_reply_is_sent() {
 fn both_positions_are_kept_apart() {
     for value in [0, 1] {
         for write_switch in [OPEN, CLOSED] {
-            let record = Record { write_switch, ..sending(value, 1, 3) };
-            let mut device = Device::from_record(&record).unwrap();
-            assert_eq!(device.to_record(), record);
-            assert_eq!(device.set_switch(1 - write_switch), Answer::Ack);
-            assert_eq!(device.to_record(), Record { write_switch: 1 - write_switch, ..record });
+            let mut bench = Bench::of(&sending(value, 1, 3), &[unit(write_switch)]);
+            assert_eq!(bench.record(), sending(value, 1, 3));
+            assert_eq!(bench.turn(1 - write_switch, 0), Answer::Ack);
+            assert_eq!((bench.record(), bench.units[0]), (sending(value, 1, 3), unit(1 - write_switch)));
         }
     }
 }
@@ -149,7 +150,7 @@ fn the_wrapper_puts_the_position_into_the_record() {
         let mut bench = Bench::new(4);
         bench.set_switch(position);
         bench.command(4, true, &[0x1A, 0, 0x3F, 0, 4, 0]);
-        let record = bench.device.to_record();
+        let record = bench.record();
         assert_eq!((record.stage, record.value, record.extra), (5, position.into(), 0));
     }
 }

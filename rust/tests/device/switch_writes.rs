@@ -18,12 +18,6 @@ fn closed() -> Bench {
     bench
 }
 
-/// The unit's sense and its number.
-fn held(bench: &Bench) -> ([u8; 3], u32) {
-    let record = bench.device.to_record();
-    ([record.sense_key, record.sense_asc, record.sense_ascq], record.sense_information)
-}
-
 /// What a host may announce with a Write of 2 blocks, or of none: nothing, either direction, less than the data, as much
 /// and more.
 const ANNOUNCED: [(u32, bool); 13] = [
@@ -68,7 +62,7 @@ fn a_write_fails_with_write_protected() {
     bench.command(0, false, &block10(0x2F, 300, 1));
     assert_eq!(bench.status(), (0, 1));
     bench.command(512, false, &block10(0x2A, 3, 1));
-    assert_eq!(held(&bench), (WRITE_PROTECTED, 0));
+    assert_eq!(bench.held(), (WRITE_PROTECTED, 0));
     bench.clear_halt(0x02);
     assert_eq!(bench.status(), (512, 1));
     let expected = [0x70, 0, 0x07, 0, 0, 0, 0, 0x0A, 0, 0, 0, 0, 0x27, 0x00, 0, 0, 0, 0];
@@ -207,7 +201,7 @@ fn a_write_under_way_ends_as_ever() {
     (0..9).for_each(|_| assert_eq!(bench.send(&[0xAB; 64]), Answer::Ack));
     assert_eq!(bench.send(&[0xAB; 10]), Answer::Ack);
     assert_eq!(bench.status(), (512, 2));
-    assert_eq!(held(&bench), (DATA_PHASE, 0));
+    assert_eq!(bench.held(), (DATA_PHASE, 0));
 
     let mut bench = Bench::new(BLOCKS);
     bench.command(600, false, &block10(0x2A, 3, 1));
@@ -225,7 +219,7 @@ fn a_write_dropped_by_a_reset_does_not_go_on() {
     (0..7).for_each(|_| assert_eq!(bench.send(&[0xAB; 64]), Answer::Ack));
     bench.set_switch(CLOSED);
     assert_eq!(bench.control([0x21, 0xFF, 0, 0, 0, 0, 0, 0]), Ok(vec![]));
-    assert_eq!(bench.device.to_record().part, [0; BLOCK]);
+    assert_eq!(bench.record().part, [0; BLOCK]);
     fails(&mut bench, (512, false), &block10(0x2A, 3, 1), other(WRITE_PROTECTED));
     assert!(bench.medium.iter().all(|byte| *byte == 0));
 }
@@ -286,5 +280,5 @@ fn the_sense_goes_as_every_sense_does() {
     bench.set_switch(CLOSED);
     bench.clear_halt(0x81);
     assert_eq!(bench.status(), (18, 2));
-    assert_eq!(held(&bench), (WRITE_PROTECTED, 0));
+    assert_eq!(bench.held(), (WRITE_PROTECTED, 0));
 }

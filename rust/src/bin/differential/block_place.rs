@@ -1,22 +1,33 @@
-//! What a run has met of blocks far out in a medium (document 02, A5): where a device with too few bits for a block
+//! What a run has met of blocks far out in a unit (document 02, A5): where a device with too few bits for a block
 //! address, for its sum with a count, or for the bytes still due goes wrong.
 
-use crate::coverage::decide;
+use crate::coverage::{accept, decide, unit_of};
 use crate::event::Event;
 use crate::own::LIMIT;
 use crate::pair::Played;
+use crate::state::State;
 use crate::table::Table;
 use ordinary::device::{BLOCK, PACKET};
 use ordinary::record::{stage, Record};
 use ordinary::scsi::code;
+use ordinary::unit::Unit;
 use ordinary::wrapper::Cbw;
 
 pub const OPERATIONS: [(u8, &str); 3] =
     [(code::READ, "Read"), (code::WRITE, "Write"), (code::VERIFY, "Verify")];
 const READ: usize = 0;
 const WRITE: usize = 1;
-/// In a transfer of that many blocks the bytes still due need more than 24 bits.
-const SERVED: [&str; 4] = ["from 4,096 on", "from 65,536 on", "last of 1,048,576", "32,768 or more due"];
+/// In a transfer of that many blocks the bytes still due need more than 24 bits. The last three are of the unit's place
+/// in the medium.
+const SERVED: [&str; 7] = [
+    "from 4,096 on",
+    "from 65,536 on",
+    "last of 1,048,576",
+    "32,768 or more due",
+    "unit begins from 65,536 on",
+    "past 1,048,576 in the medium",
+    "past 2,097,152 in the medium",
+];
 /// A far address is well past the end, but within if only 20 bits of it are looked at.
 const FAILED: [&str; 3] = ["one past the end", "sum over 32 bits", "far address"];
 
@@ -24,37 +35,39 @@ const FAILED: [&str; 3] = ["one past the end", "sum over 32 bits", "far address"
 pub struct BlockPlaces {
     /// By operation and place of the block.
     served: [[u64; SERVED.len()]; OPERATIONS.len()],
-    /// Range failures in the largest medium.
+    /// Range failures in the largest unit.
     failed: [[u64; FAILED.len()]; OPERATIONS.len()],
 }
 
 impl BlockPlaces {
     /// Notes an event that was played on a device that was in the state of `before`.
-    pub fn note(&mut self, before: &Record, event: &Event, played: &Played) {
-        let Record { blocks, place, left, .. } = *before;
+    pub fn note(&mut self, before: &State, event: &Event, played: &Played) {
+        let Record { place, left, .. } = before.record;
+        let Some(unit) = before.own_unit() else { return };
         match (event, played.answer.number, before.stage) {
             (Event::BulkIn { .. }, 0, stage::DATA_IN) => {
-                self.note_served(READ, blocks, place / BLOCK as u32, left / BLOCK as u32);
+                self.note_served(READ, unit, place / BLOCK as u32, left / BLOCK as u32);
             }
             (Event::BulkOut { packet, .. }, 1, stage::DATA_OUT) if completes(before, packet) => {
-                self.note_served(WRITE, blocks, place, left);
+                self.note_served(WRITE, unit, place, left);
             }
             (Event::BulkOut { packet, .. }, 1, stage::READY) => {
-                let cbw = Cbw::accept(packet);
-                cbw.iter().for_each(|cbw| self.note_wrapper(before, cbw.block));
+                let cbw = accept(before, packet);
+                cbw.iter().for_each(|cbw| self.note_wrapper(before, cbw));
             }
             _ => {}
         }
     }
 
-    fn note_wrapper(&mut self, before: &Record, block: &[u8; 16]) {
-        let blocks = before.blocks;
+    fn note_wrapper(&mut self, before: &State, cbw: &Cbw) {
+        let (block, unit) = (cbw.block, unit_of(before, cbw));
+        let blocks = unit.blocks;
         let Some(operation) = OPERATIONS.iter().position(|(code, _)| *code == block[0]) else { return };
         let (address, count) = range(block);
         let end = u64::from(address) + u64::from(count);
-        match decide(before, block) {
+        match decide(before, cbw) {
             Ok(_) if block[0] == code::VERIFY && count > 0 => {
-                self.note_served(operation, blocks, end as u32 - 1, count.into());
+                self.note_served(operation, unit, end as u32 - 1, count.into());
             }
             Err(sense) if sense.is_out_of_range() && blocks == LIMIT && count > 0 => {
                 let cut = u64::from(address % LIMIT) + u64::from(count);
@@ -67,12 +80,15 @@ impl BlockPlaces {
         }
     }
 
-    fn note_served(&mut self, operation: usize, blocks: u32, block: u32, due: u32) {
+    fn note_served(&mut self, operation: usize, unit: &Unit, block: u32, due: u32) {
         let served = &mut self.served[operation];
         served[0] += u64::from(block >= 4096);
         served[1] += u64::from(block >= 65_536);
-        served[2] += u64::from(blocks == LIMIT && block == LIMIT - 1);
+        served[2] += u64::from(unit.blocks == LIMIT && block == LIMIT - 1);
         served[3] += u64::from(due >= 32_768);
+        served[4] += u64::from(unit.first >= 65_536);
+        served[5] += u64::from(unit.first + block >= LIMIT);
+        served[6] += u64::from(unit.first + block >= 2 * LIMIT);
     }
 
     fn tables(&self) -> [Table<'_>; 2] {

@@ -1,10 +1,10 @@
 //! Command wrappers as a host makes them: right ones, unfitting ones and damaged ones.
 
 use crate::inquiry;
-use crate::own::{LIMIT, SMALL};
+use crate::own::{Own, LIMIT, SMALL};
 use crate::random::Random;
+use crate::state::State;
 use ordinary::device::BLOCK;
-use ordinary::record::Record;
 use ordinary::scsi::{self, code, Data, Sense, REFUSED_CONTROL_BITS};
 use ordinary::switch::Switch;
 use ordinary::wrapper::{CBW_SIGNATURE, CBW_SIZE};
@@ -34,10 +34,14 @@ const MEDIUM_CODES: [u8; 4] = [code::READ_CAPACITY, code::READ, code::WRITE, cod
 /// A packet that is mostly an accepted wrapper. What it announces is what its command would move without the refused
 /// bits of byte 1 and of the control byte, since a host that sets them expects that they are obeyed, and with the write
 /// switch open, since a host may not know of it.
-pub fn wrapper(random: &mut Random, record: &Record, marked: &[u32]) -> Vec<u8> {
-    // A record that does not fit may tell of any number of blocks.
-    let blocks = record.blocks.min(LIMIT);
-    let operation = operation(random, record, marked);
+pub fn wrapper(random: &mut Random, state: &State, own: &Own) -> Vec<u8> {
+    let unit = unit(random, state);
+    let found = state.units.get(usize::from(unit));
+    // A table that does not fit may tell of any number of blocks.
+    let blocks = found.map_or(1, |unit| unit.blocks.min(LIMIT));
+    let marked = own.marked_of(unit);
+    let failed = found.is_some_and(|unit| !unit.sense().is_zero());
+    let operation = operation(random, failed, marked);
     let mut block = command(random, operation, blocks, marked);
     let (announced, data_in) = announce(random, &block, blocks);
     if random.one_in(8) {
@@ -56,7 +60,7 @@ pub fn wrapper(random: &mut Random, record: &Record, marked: &[u32]) -> Vec<u8> 
     packet.extend(CBW_SIGNATURE);
     packet.extend((random.number() as u32).to_le_bytes());
     packet.extend(announced.to_le_bytes());
-    packet.extend([u8::from(data_in) << 7, 0, length]);
+    packet.extend([u8::from(data_in) << 7, unit, length]);
     packet.extend(block);
     if random.one_in(25) {
         damage(random, &mut packet, need);
@@ -64,11 +68,21 @@ pub fn wrapper(random: &mut Random, record: &Record, marked: &[u32]) -> Vec<u8> 
     packet
 }
 
+/// A unit of the table, now and then the first that there is not, or another.
+fn unit(random: &mut Random, state: &State) -> u8 {
+    let count = state.units.len().min(0xFF) as u64;
+    match random.below(120) {
+        0 => count as u8,
+        1 => random.below(16) as u8,
+        _ => random.below(count.max(1)) as u8,
+    }
+}
+
 /// An operation code, now and then any. A host that has a failure often asks for its sense.
-fn operation(random: &mut Random, record: &Record, marked: &[u32]) -> u8 {
+fn operation(random: &mut Random, failed: bool, marked: &[u32]) -> u8 {
     match random.below(20) {
         0 => random.number() as u8,
-        1..=5 if !record.sense().is_zero() => code::REQUEST_SENSE,
+        1..=5 if failed => code::REQUEST_SENSE,
         6..=15 if !marked.is_empty() => random.pick(&MEDIUM_CODES),
         _ => random.pick(&CODES),
     }
@@ -94,7 +108,7 @@ fn command(random: &mut Random, operation: u8, blocks: u32, marked: &[u32]) -> [
         code::READ | code::WRITE | code::VERIFY => place(random, &mut block, blocks, marked),
         code::REQUEST_SENSE | code::MODE_SENSE => {
             block[3] = if random.one_in(2) { random.number() as u8 } else { block[3] };
-            block[4] = random.pick(&[0, 1, 3, 4, 5, 6, 7, 17, 18, 19, 36, 64, 192, 255, block[4]]);
+            block[4] = random.pick(&[0, 0, 1, 2, 3, 4, 5, 6, 7, 17, 18, 19, 36, 64, 192, 255, block[4]]);
         }
         _ => {}
     }
@@ -198,7 +212,7 @@ fn damage(random: &mut Random, packet: &mut Vec<u8>, need: u8) {
         2 => packet.resize(CBW_SIZE + 1 + random.below(33) as usize, 0),
         3 => packet[random.below(4) as usize] ^= 1 << random.below(8),
         4 => packet[12] |= 1 << random.below(7),
-        5 => packet[13] |= 1 << random.below(8),
+        5 => packet[13] ^= 1 << random.below(8),
         6 => packet[14] = random.pick(&[0, need - 1, 17, 31, 32, 33, 48, 64, 128, 255]),
         _ => *packet = random.bytes(CBW_SIZE as u64),
     }

@@ -1,6 +1,7 @@
 //! Comparison of what the two devices leave, and how a difference is told.
 
 use ordinary::record::Record;
+use ordinary::unit::Unit;
 use std::fmt::Display;
 
 pub fn compare_bytes(what: impl Display, ordinary: &[u8], proved: &[u8]) -> Result<(), String> {
@@ -27,6 +28,36 @@ pub fn compare_records(ordinary: &Record, proved: &Record) -> Result<(), String>
     compare_bytes("record's part block", &ordinary.part, &proved.part)
 }
 
+/// Compares all but the reserved bytes.
+pub fn compare_tables(ordinary: &[Unit], proved: &[Unit]) -> Result<(), String> {
+    match ordinary.iter().zip(proved).position(|(a, b)| a != b) {
+        None => Ok(()),
+        Some(unit) => {
+            let [a, b] = [ordinary[unit], proved[unit]].map(|unit| show_unit(&unit));
+            Err(format!("unit {unit} of the table: ordinary {a}, proved {b}"))
+        }
+    }
+}
+
+/// Compares the reserved bytes too.
+pub fn same_bytes(a: &[Unit], b: &[Unit]) -> bool {
+    let bytes = |unit: &Unit| *{ *unit }.as_bytes_mut();
+    a.iter().map(bytes).eq(b.iter().map(bytes))
+}
+
+pub fn show_table(units: &[Unit]) -> String {
+    let units: Vec<String> = units.iter().map(show_unit).collect();
+    format!("{} units: {}", units.len(), units.join(", "))
+}
+
+fn show_unit(unit: &Unit) -> String {
+    let Unit { first, blocks, sense_key, sense_asc, sense_ascq, sense_information, write_switch, .. } = unit;
+    format!(
+        "{blocks} blocks from {first} (sense {sense_key:02X}/{sense_asc:02X}/{sense_ascq:02X}, number \
+         {sense_information:X}, switch {write_switch})"
+    )
+}
+
 /// A record's fields that are not 0, in hex.
 pub fn show(record: &Record) -> String {
     let set = fields(record).into_iter().filter(|(_, value)| *value != 0);
@@ -35,8 +66,7 @@ pub fn show(record: &Record) -> String {
     format!("{}; {held} bytes of the part block not 0", text.join(", "))
 }
 
-fn fields(record: &Record) -> [(&'static str, u64); 18] {
-    let sense = u32::from_be_bytes([0, record.sense_key, record.sense_asc, record.sense_ascq]);
+fn fields(record: &Record) -> [(&'static str, u64); 15] {
     [
         ("number", record.number),
         ("vendor", record.vendor.into()),
@@ -49,12 +79,9 @@ fn fields(record: &Record) -> [(&'static str, u64); 18] {
         ("extra", record.extra.into()),
         ("tag", record.tag.into()),
         ("announced", record.announced.into()),
-        ("blocks", record.blocks.into()),
         ("stage", record.stage.into()),
         ("flags", record.flags.into()),
         ("address", record.address.into()),
-        ("sense", sense.into()),
-        ("sense information", record.sense_information.into()),
-        ("write switch", record.write_switch.into()),
+        ("unit", record.unit.into()),
     ]
 }

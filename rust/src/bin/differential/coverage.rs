@@ -11,24 +11,31 @@ use crate::product_page::ProductPages;
 use crate::refused_block::RefusedBlocks;
 use crate::sense_drop::SenseDrops;
 use crate::sense_history::SenseHistory;
+use crate::state::State;
 use crate::switch_drop::SwitchDrops;
 use crate::switch_event::SwitchEvents;
 use crate::switch_reply::SwitchReplies;
 use crate::switch_write::SwitchWrites;
+use crate::unit_command::UnitCommands;
+use crate::unit_medium::UnitMedia;
+use crate::unit_sense::UnitSenses;
+use crate::unit_switch::UnitSwitches;
+use crate::unit_write::UnitWrites;
 use ordinary::cases::Case;
-use ordinary::record::{stage, Record};
+use ordinary::record::stage;
 use ordinary::scsi::{self, code, Data, Sense};
+use ordinary::unit::Unit;
 use ordinary::wrapper::Cbw;
 
-const NUMBERS: [usize; 11] = [0, 1, 2, 3, 4, 10, 11, 12, 13, 14, 15];
+const NUMBERS: [usize; 12] = [0, 1, 2, 3, 4, 10, 11, 12, 13, 14, 15, 18];
 /// The answers that each kind can give: all are owed.
 const OWED: [&[usize]; KINDS.len()] = [
-    &[1, 11, 15],
+    &[1, 10, 11, 15],
     &[1, 10],
     &[0, 1, 3, 10, 12, 14],
     &[1, 2, 3, 4, 10, 11, 13],
     &[0, 2, 3, 4, 10, 11, 12],
-    &[1, 10],
+    &[1, 10, 18],
 ];
 pub const COMMANDS: [(u8, &str); 9] = [
     (code::TEST_UNIT_READY, "Test Unit Ready"),
@@ -49,7 +56,7 @@ pub const PHASE_ERROR: usize = 2;
 
 #[derive(Default)]
 pub struct Coverage {
-    answers: [[u64; 16]; KINDS.len()],
+    answers: [[u64; 19]; KINDS.len()],
     /// By command of the table, the last for any other; passed, failed, phase error found at the wrapper.
     commands: [[u64; 3]; COMMANDS.len() + 1],
     allocation_lengths: AllocationLengths,
@@ -65,13 +72,25 @@ pub struct Coverage {
     switch_writes: SwitchWrites,
     switch_replies: SwitchReplies,
     switch_drops: SwitchDrops,
+    unit_commands: UnitCommands,
+    unit_senses: UnitSenses,
+    unit_writes: UnitWrites,
+    unit_switches: UnitSwitches,
+    unit_media: UnitMedia,
     cases: [u64; 14],
     statuses: [u64; 3],
 }
 
 impl Coverage {
+    /// Notes an event that was lent another table than the trial's own: nothing else is told of it here.
+    pub fn note_other(&mut self, event: &Event, played: &Played) {
+        self.answers[event.kind()][played.answer.number as usize] += 1;
+        self.sense_history.forget();
+        self.unit_senses.forget();
+    }
+
     /// Notes an event that was played on a device that was in the state of `before`.
-    pub fn note(&mut self, before: &Record, event: &Event, played: &Played) {
+    pub fn note(&mut self, before: &State, event: &Event, played: &Played) {
         let number = played.answer.number as usize;
         self.answers[event.kind()][number] += 1;
         self.medium_sizes.note(before, event, played);
@@ -82,6 +101,11 @@ impl Coverage {
         self.switch_writes.note(before, event, played);
         self.switch_replies.note(before, event, played);
         self.switch_drops.note(before, event, played);
+        self.unit_commands.note(before, event, played);
+        self.unit_senses.note(before, event, played);
+        self.unit_writes.note(before, event, played);
+        self.unit_switches.note(before, event, played);
+        self.unit_media.note(before, event, played);
         match event {
             Event::BulkOut { packet, .. } if number == 1 && before.stage == stage::READY => {
                 self.note_wrapper(before, packet);
@@ -96,13 +120,13 @@ impl Coverage {
         }
     }
 
-    fn note_wrapper(&mut self, before: &Record, packet: &[u8]) {
-        let Some(cbw) = Cbw::accept(packet) else { return };
+    fn note_wrapper(&mut self, before: &State, packet: &[u8]) {
+        let Some(cbw) = accept(before, packet) else { return };
         let (case, verdict) = verdict(before, &cbw);
         let known = COMMANDS.iter().position(|(code, _)| *code == cbw.block[0]);
         self.commands[known.unwrap_or(COMMANDS.len())][verdict] += 1;
         self.cases[case as usize] += 1;
-        self.refused_blocks.note(before, cbw.block, verdict);
+        self.refused_blocks.note(before, &cbw, verdict);
         if cbw.block[0] == code::INQUIRY {
             self.page_fields.note(cbw.block, verdict);
             self.product_pages.note(cbw.block, case, verdict);
@@ -115,7 +139,7 @@ impl Coverage {
         }
     }
 
-    fn note_control_byte(&mut self, before: &Record, cbw: &Cbw, index: usize, outcome: usize) {
+    fn note_control_byte(&mut self, before: &State, cbw: &Cbw, index: usize, outcome: usize) {
         let cleared = control_byte::cleared(cbw.block);
         let (_, without) = verdict(before, &Cbw { block: &cleared, ..*cbw });
         match (outcome, without) {
@@ -152,6 +176,11 @@ impl Coverage {
         self.switch_writes.print();
         self.switch_replies.print();
         self.switch_drops.print();
+        self.unit_commands.print();
+        self.unit_senses.print();
+        self.unit_writes.print();
+        self.unit_switches.print();
+        self.unit_media.print();
         println!("\nthe thirteen meetings of host and device");
         for case in Case::ALL {
             println!("  {:>2} {:<18}{:>9}", case as usize, format!("{case:?}"), self.cases[case as usize]);
@@ -194,19 +223,35 @@ impl Coverage {
         missing.extend(self.switch_writes.missing());
         missing.extend(self.switch_replies.missing());
         missing.extend(self.switch_drops.missing());
+        missing.extend(self.unit_commands.missing());
+        missing.extend(self.unit_senses.missing());
+        missing.extend(self.unit_writes.missing());
+        missing.extend(self.unit_switches.missing());
+        missing.extend(self.unit_media.missing());
         missing
     }
 }
 
-/// What is decided of an accepted wrapper's block on a device in the state of `before`.
-pub fn decide(before: &Record, block: &[u8; 16]) -> Result<Data, Sense> {
-    let switch = before.switch().expect("an event was answered, so that the record decodes");
-    scsi::decide(block, before.sense(), before.blocks, switch)
+/// A wrapper that a device with the table of `before` accepts.
+pub fn accept<'a>(before: &State, packet: &'a [u8]) -> Option<Cbw<'a>> {
+    Cbw::accept(packet, before.units.len())
+}
+
+/// The unit of an accepted wrapper.
+pub fn unit_of<'a>(before: &'a State, cbw: &Cbw) -> &'a Unit {
+    &before.units[usize::from(cbw.unit)]
+}
+
+/// What is decided of an accepted wrapper on a device in the state of `before`.
+pub fn decide(before: &State, cbw: &Cbw) -> Result<Data, Sense> {
+    let unit = unit_of(before, cbw);
+    let switch = unit.switch().expect("the wrapper was answered, so that the table fits");
+    scsi::decide(cbw.block, unit.sense(), unit.blocks, switch)
 }
 
 /// A wrapper's meeting on a device in the state of `before`, and its verdict.
-pub fn verdict(before: &Record, cbw: &Cbw) -> (Case, usize) {
-    let outcome = decide(before, cbw.block);
+pub fn verdict(before: &State, cbw: &Cbw) -> (Case, usize) {
+    let outcome = decide(before, cbw);
     let case = Case::of(cbw, &outcome.unwrap_or(Data::None));
     let verdict = match outcome {
         _ if case.is_phase_error() => PHASE_ERROR,

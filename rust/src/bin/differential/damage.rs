@@ -1,7 +1,7 @@
-//! Records that C may hand over but no event leaves: every byte of reached ones changed, and invented ones.
+//! Records and tables that C may hand over but no event leaves: every byte of reached ones changed, and invented ones.
 
-use crate::compare::show;
-use crate::event::{Event, Lent};
+use crate::compare::{show, show_table};
+use crate::event::{Event, Lent, Step};
 use crate::host;
 use crate::invent::invent;
 use crate::large_media::LONGEST;
@@ -9,19 +9,26 @@ use crate::own::Own;
 use crate::page_record::PageRecords;
 use crate::pair::Pair;
 use crate::random::Random;
-use crate::record_size::RecordSizes;
 use crate::requests;
 use crate::sense_record::SenseRecords;
-use crate::switch::{CLOSED, OPEN};
+use crate::state::State;
+use crate::switch::{self, CLOSED, OPEN};
 use crate::switch_record::SwitchRecords;
+use crate::table_record::TableRecords;
+use crate::tables;
+use crate::unit_record::UnitRecords;
 use ordinary::device::BLOCK;
 use ordinary::record::{stage, Record, SIZE};
+use ordinary::unit;
 use std::mem::offset_of;
 
 /// Reached records are taken evenly from the stages, and from unconfigured and locked devices.
 const CLASSES: usize = stage::COUNT + 2;
 const EVERY: u64 = 30_000;
 const INVENTED: u64 = 250;
+const CHANGED_TABLES: u64 = 60;
+/// Another medium of at most so many blocks is lent with a small one.
+const FEW: u64 = 64;
 /// The bytes before the part block.
 const FIELDS: usize = offset_of!(Record, part);
 
@@ -33,7 +40,8 @@ pub struct Damage {
     pub undecoded: u64,
     pub unfit: u64,
     pub fit: u64,
-    pub sizes: RecordSizes,
+    pub tables: TableRecords,
+    pub units: UnitRecords,
     pub pages: PageRecords,
     pub senses: SenseRecords,
     pub switches: SwitchRecords,
@@ -58,37 +66,41 @@ impl Damage {
         events >= EVERY && random.one_in(4)
     }
 
-    /// A turn on a small medium: every byte of a reached record, and invented records.
+    /// A turn on a small medium: every byte of a reached record and of its table, and invented ones.
     pub fn small(
         &mut self,
         random: &mut Random,
-        reached: &Record,
+        reached: &State,
         own: &Own,
         medium: &[u8],
     ) -> Result<(), String> {
         self.records += 1;
-        let mut pair = Pair::small(*reached, medium.to_vec());
-        for at in 0..SIZE {
+        let mut pair = Pair::small(reached.clone(), medium.to_vec());
+        for at in 0..SIZE + unit::SIZE * reached.units.len() {
             self.change(random, &mut pair, reached, own, at, Some(medium))?;
         }
+        for _ in 0..CHANGED_TABLES {
+            let state = State { units: tables::changed(random, &reached.units), ..reached.clone() };
+            self.five(random, &mut pair, &state, own, Some(medium))?;
+        }
         for _ in 0..INVENTED {
-            let record = invent(random, own.blocks);
-            let mut pair = Pair::small(record, medium.to_vec());
-            self.invented(random, &mut pair, &record, own)?;
+            let state = invent(random, own);
+            let mut pair = Pair::small(state.clone(), medium.to_vec());
+            self.invented(random, &mut pair, &state, own)?;
         }
         Ok(())
     }
 
-    /// A turn on a large medium, at the end of its trial: every field of the record reached, and invented records.
-    /// What they write stays, on both sides.
+    /// A turn on a large medium, at the end of its trial: every field of the record reached and of its table, and invented
+    /// ones. What they write stays, on both sides.
     pub fn large(&mut self, random: &mut Random, own: &Own, pair: &mut Pair) -> Result<(), String> {
-        let reached = pair.record();
-        for at in 0..FIELDS {
+        let reached = pair.state();
+        for at in (0..FIELDS).chain(SIZE..SIZE + unit::SIZE * reached.units.len()) {
             self.change(random, pair, &reached, own, at, None)?;
         }
         for _ in 0..INVENTED {
-            let record = invent(random, own.blocks);
-            self.invented(random, pair, &record, own)?;
+            let state = invent(random, own);
+            self.invented(random, pair, &state, own)?;
         }
         match pair.stray() {
             None => Ok(()),
@@ -96,66 +108,87 @@ impl Damage {
         }
     }
 
-    /// Changes a byte of a reached record in some ways, then plays each of the five events on it. A reserved byte must
-    /// not be looked at.
+    /// Changes a byte of a reached record or, behind it, of its table in some ways, then plays each of the five events on
+    /// it. A reserved byte must not be looked at.
     fn change(
         &mut self,
         random: &mut Random,
         pair: &mut Pair,
-        reached: &Record,
+        reached: &State,
         own: &Own,
         at: usize,
         medium: Option<&[u8]>,
     ) -> Result<(), String> {
-        let old = { *reached }.as_bytes_mut()[at];
+        let mut state = reached.clone();
+        let old = *byte(&mut state, at);
         for new in [old ^ 1 << random.below(8), old.wrapping_add(1), random.number() as u8] {
-            let mut record = *reached;
-            record.as_bytes_mut()[at] = new;
-            for event in five_events(random, &record, lent(own, &record)) {
-                pair.load(record);
-                self.play(pair, &record, &event)?;
-                if let (Event::BulkOut { .. }, Some(medium)) = (&event, medium) {
-                    pair.restore_medium(medium);
-                }
+            *byte(&mut state, at) = new;
+            self.five(random, pair, &state, own, medium)?;
+        }
+        Ok(())
+    }
+
+    /// Plays each of the five events on a state.
+    fn five(
+        &mut self,
+        random: &mut Random,
+        pair: &mut Pair,
+        state: &State,
+        own: &Own,
+        medium: Option<&[u8]>,
+    ) -> Result<(), String> {
+        for event in five_events(random, state, own) {
+            pair.load(state);
+            self.play(pair, state, event.clone())?;
+            if let (Event::BulkOut { .. }, Some(medium)) = (&event, medium) {
+                pair.restore_medium(medium);
             }
         }
         Ok(())
     }
 
-    /// Plays each of the five events and a short list of events on a record that was made up.
+    /// Plays each of the five events, a making and a short list of events on a state that was made up.
     fn invented(
         &mut self,
         random: &mut Random,
         pair: &mut Pair,
-        record: &Record,
+        state: &State,
         own: &Own,
     ) -> Result<(), String> {
-        for event in five_events(random, record, lent(own, record)) {
-            pair.load(*record);
-            self.play(pair, record, &event)?;
-        }
-        pair.load(*record);
+        self.five(random, pair, state, own, None)?;
+        pair.load(state);
+        self.play(pair, state, Event::Make { identity: host::identity(random), medium: lent(own, state) })?;
+        pair.load(state);
         for _ in 0..6 {
-            let before = pair.record();
+            let before = pair.state();
             let event = host::next(random, &before, own);
-            self.play(pair, &before, &event)?;
+            self.play(pair, &before, event)?;
         }
         Ok(())
     }
 
-    fn play(&mut self, pair: &mut Pair, before: &Record, event: &Event) -> Result<(), String> {
+    fn play(&mut self, pair: &mut Pair, before: &State, event: Event) -> Result<(), String> {
         let decodes = pair.decodes();
-        let played = pair
-            .play(event)
-            .map_err(|difference| format!("record: {}\nevent: {event}\n{difference}", show(before)))?;
+        let step = Step::own(event);
+        let tell = |difference| {
+            let (record, table) = (show(before), show_table(&before.units));
+            format!("record: {record}\ntable: {table}\nevent: {step}\n{difference}")
+        };
+        let played = pair.play(&step).map_err(tell)?;
+        let event = &step.event;
         self.events += 1;
-        if let Event::Switch { position: 2.. } = event {
+        self.tables.note(before, event, &played);
+        match event {
+            Event::Make { .. } => return Ok(()),
             // Number 10 whatever the record: it tells nothing of that.
-            self.switches.note_no_position(before);
-            return Ok(());
+            Event::Switch { position: 2.., .. } => {
+                self.switches.note_no_position(before);
+                return Ok(());
+            }
+            _ => {}
         }
         let unfit = played.answer.number == 10;
-        self.sizes.note(before, event, &played);
+        self.units.note(before, event, &played);
         self.pages.note(before, event, &played);
         self.senses.note(before, event, &played);
         self.switches.note(before, event, &played);
@@ -166,23 +199,30 @@ impl Damage {
     }
 }
 
-/// A medium of the record's size, where there is so much memory: no other check then refuses a record over the limit.
-fn lent(own: &Own, record: &Record) -> Lent {
-    let bytes = record.blocks as usize * BLOCK;
-    if own.is_large() && bytes <= LONGEST {
-        Lent::Other(bytes)
-    } else {
-        Lent::Own
+/// A byte of the record or, behind it, of the table.
+fn byte(state: &mut State, at: usize) -> &mut u8 {
+    match at.checked_sub(SIZE) {
+        None => &mut state.record.as_bytes_mut()[at],
+        Some(at) => &mut state.units[at / unit::SIZE].as_bytes_mut()[at % unit::SIZE],
     }
 }
 
-fn five_events(random: &mut Random, record: &Record, medium: Lent) -> [Event; 5] {
-    let setup = requests::known(random);
+/// A medium of the table's size, where there is so much memory: no other check then refuses a table that does not fit.
+fn lent(own: &Own, state: &State) -> Lent {
+    let most = if own.is_large() { (LONGEST / BLOCK) as u64 } else { FEW };
+    match state.blocks() {
+        blocks if blocks == own.blocks().into() || blocks > most => Lent::Own,
+        blocks => Lent::Other(blocks as usize * BLOCK),
+    }
+}
+
+fn five_events(random: &mut Random, state: &State, own: &Own) -> [Event; 5] {
+    let (setup, medium) = (requests::known(random), lent(own, state));
     [
         Event::BusReset,
         host::control(random, setup),
-        Event::BulkOut { medium, packet: host::packet(random, record, &[]) },
+        Event::BulkOut { medium, packet: host::packet(random, state, own) },
         Event::BulkIn { medium, buffer: host::buffer(random) },
-        Event::Switch { position: random.pick(&[OPEN, CLOSED]) },
+        Event::Switch { position: random.pick(&[OPEN, CLOSED]), unit: switch::unit(random, state) },
     ]
 }

@@ -1,6 +1,8 @@
 //! An event with all that is lent to it, so that a list of events can be played again.
 
+use crate::compare::show_table;
 use ordinary::device::Identity;
+use ordinary::unit::Unit;
 use std::fmt;
 
 /// The medium lent: the trial's own, or another of some length.
@@ -24,7 +26,21 @@ pub enum Event {
     Control { setup: Vec<u8>, buffer: Buffer },
     BulkOut { medium: Lent, packet: Vec<u8> },
     BulkIn { medium: Lent, buffer: Buffer },
-    Switch { position: u8 },
+    Switch { position: u8, unit: u8 },
+}
+
+/// An event in a trial's list.
+#[derive(Clone)]
+pub struct Step {
+    pub event: Event,
+    /// Another table than the trial's own, lent with this event alone.
+    pub other: Option<Vec<Unit>>,
+}
+
+impl Step {
+    pub fn own(event: Event) -> Step {
+        Step { event, other: None }
+    }
 }
 
 pub const KINDS: [&str; 6] = ["make", "bus reset", "control", "bulk-out", "bulk-in", "switch"];
@@ -89,7 +105,17 @@ impl fmt::Display for Event {
             Event::BulkIn { medium, buffer } => {
                 write!(f, "bulk-in, {medium}, buffer of {} bytes", buffer.length)
             }
-            Event::Switch { position } => write!(f, "switch, position {position}"),
+            Event::Switch { position, unit } => write!(f, "switch, position {position}, unit {unit}"),
+        }
+    }
+}
+
+impl fmt::Display for Step {
+    fn fmt(&self, f: &mut fmt::Formatter) -> fmt::Result {
+        write!(f, "{}", self.event)?;
+        match &self.other {
+            None => Ok(()),
+            Some(units) => write!(f, "; lent another table: {}", show_table(units)),
         }
     }
 }

@@ -1,36 +1,45 @@
 //! A host that mostly does the sensible next thing for the device's state, and now and then something else.
 
 use crate::commands::wrapper;
-use crate::event::{Buffer, Event, Lent};
+use crate::event::{Buffer, Event, Lent, Step};
 use crate::large_media::LONGEST;
 use crate::own::{Own, LIMIT, SMALL};
 use crate::random::Random;
 use crate::requests::{self, Setup};
-use crate::switch;
+use crate::state::State;
+use crate::{switch, tables};
 use ordinary::device::{Identity, BLOCK, MAX_NUMBER, PACKET};
 use ordinary::record::{stage, Record};
 
-/// The next event for a device in the state of `record`.
-pub fn next(random: &mut Random, record: &Record, own: &Own) -> Event {
-    if record.blocks != own.blocks && random.one_in(3) {
+/// The next event for a device in this state, now and then lent another table than its own; a making more often.
+pub fn step(random: &mut Random, state: &State, own: &Own) -> Step {
+    let event = next(random, state, own);
+    let other = random.one_in(if matches!(event, Event::Make { .. }) { 4 } else { 50 });
+    Step { other: other.then(|| tables::changed(random, &state.units)), event }
+}
+
+/// The next event for a device in this state.
+pub fn next(random: &mut Random, state: &State, own: &Own) -> Event {
+    let unmade = state.record == Record::ZERO || state.own_unit().is_none();
+    if unmade && random.one_in(3) {
         return Event::Make { identity: identity(random), medium: Lent::Own };
     }
-    if switch::is_moved(random, record) {
-        return switch::moved(random);
+    if switch::is_moved(random, state) {
+        return switch::moved(random, state);
     }
-    if record.closed() && random.one_in(60) {
+    if (state.any_closed() || state.senses() > 1) && random.one_in(60) {
         return reset(random);
     }
     if random.one_in(10) {
-        return odd(random, record, own);
+        return odd(random, state, own);
     }
-    if !record.configured() {
-        return enumerate(random, record, own);
+    if !state.configured() {
+        return enumerate(random, state, own);
     }
-    if record.locked() {
-        return recover(random, record, own);
+    if state.locked() {
+        return recover(random, state, own);
     }
-    proceed(random, record, own)
+    proceed(random, state, own)
 }
 
 pub fn control(random: &mut Random, setup: Setup) -> Event {
@@ -51,33 +60,33 @@ pub fn buffer(random: &mut Random) -> Buffer {
 }
 
 /// A wrapper where one is due, else data.
-pub fn packet(random: &mut Random, record: &Record, marked: &[u32]) -> Vec<u8> {
-    if record.stage != stage::DATA_OUT {
-        return wrapper(random, record, marked);
+pub fn packet(random: &mut Random, state: &State, own: &Own) -> Vec<u8> {
+    if state.stage != stage::DATA_OUT {
+        return wrapper(random, state, own);
     }
     let length = if random.one_in(60) { random.below(PACKET as u64 + 1) } else { PACKET as u64 };
     random.bytes(length)
 }
 
-fn enumerate(random: &mut Random, record: &Record, own: &Own) -> Event {
+fn enumerate(random: &mut Random, state: &State, own: &Own) -> Event {
     match random.below(10) {
         0..=3 => control(random, requests::SET_CONFIGURATION),
         4..=7 => {
             let setup = requests::known(random);
             control(random, setup)
         }
-        8 => send(packet(random, record, &own.marked)),
+        8 => send(packet(random, state, own)),
         _ => ask(random),
     }
 }
 
 /// Out of the lock: mostly Mass Storage Reset; a Clear Feature alone must not do.
-fn recover(random: &mut Random, record: &Record, own: &Own) -> Event {
+fn recover(random: &mut Random, state: &State, own: &Own) -> Event {
     match random.below(8) {
         0..=2 => control(random, requests::MASS_STORAGE_RESET),
         3 => control(random, requests::CLEAR_IN),
         4 => control(random, requests::CLEAR_OUT),
-        5 => send(packet(random, record, &own.marked)),
+        5 => send(packet(random, state, own)),
         6 => ask(random),
         _ => {
             let setup = requests::known(random);
@@ -87,17 +96,18 @@ fn recover(random: &mut Random, record: &Record, own: &Own) -> Event {
 }
 
 /// The next step of a command. A stall is mostly met before the halt is cleared.
-fn proceed(random: &mut Random, record: &Record, own: &Own) -> Event {
+fn proceed(random: &mut Random, state: &State, own: &Own) -> Event {
     let met = !random.one_in(4);
-    match record.stage {
-        stage::READY | stage::DATA_OUT if record.halt_out() && met => control(random, requests::CLEAR_OUT),
-        stage::READY | stage::DATA_OUT => send(packet(random, record, &own.marked)),
-        _ if record.halt_in() && met => control(random, requests::CLEAR_IN),
+    match state.stage {
+        stage::READY | stage::DATA_OUT if state.halt_out() && met => control(random, requests::CLEAR_OUT),
+        stage::READY | stage::DATA_OUT => send(packet(random, state, own)),
+        _ if state.halt_in() && met => control(random, requests::CLEAR_IN),
         _ => ask(random),
     }
 }
 
-/// Whatever drops the command. It comes more often while the write switch is closed: none but a making opens it.
+/// Whatever drops the command. It comes more often while a write switch is closed, for none but a making opens it, and
+/// while several units hold a sense, for all of them are cleared.
 fn reset(random: &mut Random) -> Event {
     match random.below(5) {
         0 => Event::Make { identity: identity(random), medium: Lent::Own },
@@ -109,7 +119,7 @@ fn reset(random: &mut Random) -> Event {
 }
 
 /// Something out of turn, or an input that is refused.
-fn odd(random: &mut Random, record: &Record, own: &Own) -> Event {
+fn odd(random: &mut Random, state: &State, own: &Own) -> Event {
     match random.below(20) {
         0 => Event::BusReset,
         1 => making(random, own),
@@ -122,18 +132,18 @@ fn odd(random: &mut Random, record: &Record, own: &Own) -> Event {
             control(random, setup)
         }
         10 | 11 => ask(random),
-        12 => send(wrapper(random, record, &own.marked)),
+        12 => send(wrapper(random, state, own)),
         13 => send(random.bytes(64)),
         14 => {
             let length = random.below(65);
             send(random.bytes(length))
         }
-        _ => refused(random, record, own),
+        _ => refused(random, state, own),
     }
 }
 
 /// An event with one or more inputs that are refused, so that the order of the checks shows.
-fn refused(random: &mut Random, record: &Record, own: &Own) -> Event {
+fn refused(random: &mut Random, state: &State, own: &Own) -> Event {
     let medium = if random.one_in(2) { wrong_medium(random, own) } else { Lent::Own };
     let mut buffer = buffer(random);
     if random.one_in(2) {
@@ -143,7 +153,7 @@ fn refused(random: &mut Random, record: &Record, own: &Own) -> Event {
     match random.below(3) {
         0 => Event::BulkIn { medium, buffer },
         1 => {
-            let mut packet = packet(random, record, &own.marked);
+            let mut packet = packet(random, state, own);
             if random.one_in(2) {
                 packet.resize(PACKET + 1 + random.below(80) as usize, 0x5A);
             }
@@ -159,15 +169,18 @@ fn refused(random: &mut Random, record: &Record, own: &Own) -> Event {
     }
 }
 
-/// A medium that is mostly not of the own one's size. The long ones are lent with a large medium only.
+/// A medium that is mostly not of the own one's size: that of one unit, all but the last, and others. The long ones are
+/// lent with a large medium only.
 fn wrong_medium(random: &mut Random, own: &Own) -> Lent {
     let bytes = own.bytes();
     Lent::Other(match random.below(40) {
-        0..=23 if own.is_large() => long(random, own.blocks),
+        0..=23 if own.is_large() => long(random, own.blocks()),
         0 => bytes + SMALL as usize * BLOCK,
-        1..=9 => 0,
-        10..=19 => bytes + random.pick(&[1, 256, 511]),
-        20..=29 => bytes - random.pick(&[1, 256, 511, 512]),
+        1..=4 => 0,
+        5..=9 => own.sizes[random.below(own.sizes.len() as u64) as usize] as usize * BLOCK,
+        10..=15 => bytes - own.sizes[own.sizes.len() - 1] as usize * BLOCK,
+        16..=21 => bytes + random.pick(&[1, 256, 511]),
+        22..=29 => bytes - random.pick(&[1, 256, 511, 512, 512]),
         _ => bytes + BLOCK * (1 + random.below(3) as usize),
     })
 }

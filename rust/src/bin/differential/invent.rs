@@ -1,73 +1,51 @@
-//! Records that were made up, near the bounds of what fits together.
+//! Records and tables that were made up, near the bounds of what fits together.
 
 use crate::inquiry::PAGES;
-use crate::own::{LIMIT, SMALL};
+use crate::own::{Own, LIMIT};
 use crate::random::Random;
-use crate::switch::{no_position, CLOSED, OPEN};
+use crate::state::State;
+use crate::switch::{CLOSED, OPEN};
+use crate::tables::{self, information, sense};
 use ordinary::device::{BLOCK, MAX_NUMBER, PACKET};
 use ordinary::record::{flag, stage, Record};
 
 /// A reply's sense is below this.
 const SENSE_BOUND: u32 = 1 << 24;
 
-/// With the medium's number of blocks or another: a large medium can be lent with these too.
-pub fn invent(random: &mut Random, own: u32) -> Record {
-    let other = random.one_in(if own > SMALL { 2 } else { 6 });
-    let blocks = if other { other_blocks(random, own) } else { own };
-    let mut record = Record { blocks, ..Record::ZERO };
+/// With the own table's sizes, mostly; a large medium can be lent with other sizes too.
+pub fn invent(random: &mut Random, own: &Own) -> State {
+    let mut units = own.units();
+    let mut record = Record { flags: flags(random), ..Record::ZERO };
+    if record.configured() || random.one_in(4) {
+        tables::used(random, &mut units);
+    }
+    if random.one_in(2) {
+        tables::fill_reserved(random, &mut units);
+    }
+    if random.one_in(if own.is_large() { 2 } else { 3 }) {
+        units = tables::changed(random, &units);
+    }
     record.number = random.pick(&[0, 42, MAX_NUMBER, MAX_NUMBER - 1, MAX_NUMBER]);
     record.address = random.below(0x80) as u8;
-    record.flags = flags(random);
-    set_sense(random, &mut record);
-    record.write_switch = if random.one_in(8) { no_position(random) } else { random.pick(&[OPEN, CLOSED]) };
+    record.unit = unit(random, units.len());
     if random.one_in(2) {
         random.fill(&mut record.part);
     }
     // Now and then the first stage that there is not.
     record.stage = random.below(stage::COUNT as u64 + 1) as u8;
+    let blocks = units.get(usize::from(record.unit)).map_or(1, |unit| unit.blocks);
     if record.stage != stage::READY || random.one_in(8) {
-        set_command(random, &mut record);
+        set_command(random, &mut record, blocks);
     }
-    record
+    State { record, units }
 }
 
-/// The unit's sense and its number (document 02, A8): each alone, both or none.
-fn set_sense(random: &mut Random, record: &mut Record) {
-    if random.one_in(2) {
-        [record.sense_key, record.sense_asc, record.sense_ascq] = sense(random);
-    }
-    if random.one_in(2) {
-        record.sense_information = information(random, record.blocks);
-    }
-}
-
-/// Any, or 05/21/00, or one byte off by one from that.
-fn sense(random: &mut Random) -> [u8; 3] {
-    let mut sense = [0x05, 0x21, 0x00];
-    match random.below(4) {
-        0 => random.fill(&mut sense),
-        1 => {}
-        _ => {
-            let byte = &mut sense[random.below(3) as usize];
-            *byte = byte.wrapping_add(random.pick(&[1, 0xFF]));
-        }
-    }
-    sense
-}
-
-/// A sense's number: the unit's end, and any.
-fn information(random: &mut Random, blocks: u32) -> u32 {
-    let any = random.number() as u32;
-    random.pick(&[0, 1, blocks, blocks.saturating_add(1), u32::MAX, any, any])
-}
-
-/// At the limit, over it, or apart from the medium's number by a power of two (document 02, A5).
-fn other_blocks(random: &mut Random, own: u32) -> u32 {
+/// A unit of the table, or now and then one beyond it.
+fn unit(random: &mut Random, count: usize) -> u8 {
+    let count = count.min(0xFF) as u64;
     match random.below(8) {
-        0..=2 => LIMIT,
-        3..=5 => LIMIT + 1,
-        6 => own + (1 << random.pick(&[12, 16, 19, 20])),
-        _ => random.pick(&[0, LIMIT - 1, LIMIT + 2, 2 * LIMIT, 1 << 23, u32::MAX]),
+        0 => random.pick(&[count as u8, 4, 0x80, 0xFF]),
+        _ => random.below(count.max(1)) as u8,
     }
 }
 
@@ -83,11 +61,11 @@ fn flags(random: &mut Random) -> u8 {
     flags
 }
 
-fn set_command(random: &mut Random, record: &mut Record) {
+fn set_command(random: &mut Random, record: &mut Record, blocks: u32) {
     let size = match record.stage {
-        stage::DATA_OUT => record.blocks,
-        // Over the limit no record fits, whatever its place: the product only must not overflow.
-        stage::DATA_IN => record.blocks.saturating_mul(BLOCK as u32),
+        stage::DATA_OUT => blocks,
+        // Over the limit no table fits, whatever the place: the product only must not overflow.
+        stage::DATA_IN => blocks.saturating_mul(BLOCK as u32),
         stage::REQUEST_SENSE => 18,
         stage::INQUIRY => 36,
         stage::MODE_SENSE => 4,
@@ -111,7 +89,7 @@ fn set_command(random: &mut Random, record: &mut Record) {
     match record.stage {
         stage::DATA_OUT => record.value = 64 * random.below(9) as u32 + u32::from(random.one_in(12)),
         stage::MODE_SENSE => record.value = found(random),
-        stage::READ_CAPACITY => record.value = random.pick(&[0, 1, record.blocks, LIMIT, u32::MAX]),
+        stage::READ_CAPACITY => record.value = random.pick(&[0, 1, blocks, LIMIT, u32::MAX]),
         stage::REQUEST_SENSE => {
             let [key, asc, ascq] = sense(random);
             let sense = u32::from_le_bytes([key, asc, ascq, 0]);
@@ -122,7 +100,7 @@ fn set_command(random: &mut Random, record: &mut Record) {
     }
     // Only a reply's sense has a number.
     if record.stage == stage::REQUEST_SENSE || random.one_in(12) {
-        record.extra = information(random, record.blocks);
+        record.extra = information(random, blocks);
     }
     let scale = if record.stage == stage::DATA_OUT { BLOCK as u32 } else { 1 };
     let due = record.left.wrapping_mul(scale);

@@ -1,4 +1,4 @@
-//! Media too large to be compared whole after each event (document 02, A5).
+//! Media too large to be compared whole after each event (document 02, A5 and A7).
 //!
 //! Their memory is zeros, nearly all of it never written, so that it costs nothing. Marked blocks hold random bytes, so
 //! that a wrong block shows. After each event these blocks are compared, and all that was written so far; at the end of
@@ -6,13 +6,13 @@
 
 use crate::compare::compare_bytes;
 use crate::event::Lent;
-use crate::own::{Own, LIMIT};
+use crate::own::{Own, LIMIT, MOST};
 use crate::random::Random;
 use ordinary::device::BLOCK;
 use std::ops::Range;
 
-/// The longest medium that is lent: over the limit.
-pub const LONGEST: usize = (LIMIT as usize + 4) * BLOCK;
+/// The longest medium that is lent: over the limit of all units.
+pub const LONGEST: usize = (MOST as usize * LIMIT as usize + 4) * BLOCK;
 /// A device that keeps a block address in 12 or 16 bits, or a byte's place in 24, writes a block modulo one of these.
 const WRAPS: [usize; 3] = [1 << 12, 1 << 16, (1 << 24) / BLOCK];
 
@@ -37,10 +37,10 @@ impl LargeMedia {
             self.sides.iter_mut().for_each(|side| side[bytes(block)].fill(0));
         }
         let mut random = Random::new(seed);
-        for &block in &own.marked {
+        for block in own.marked_in_medium().map(|block| block as usize) {
             let content = random.bytes(BLOCK as u64);
-            self.sides.iter_mut().for_each(|side| side[bytes(block as usize)].copy_from_slice(&content));
-            self.watch(block as usize);
+            self.sides.iter_mut().for_each(|side| side[bytes(block)].copy_from_slice(&content));
+            self.watch(block);
         }
         (self.own, self.reach) = (own.bytes(), own.bytes());
     }
@@ -65,10 +65,13 @@ impl LargeMedia {
         }
     }
 
-    /// Watches a block that is going to be written, and those that a device with too few address bits would write.
-    pub fn watch_write(&mut self, block: usize) {
-        self.watch(block);
-        WRAPS.iter().for_each(|wrap| self.watch(block % wrap));
+    /// Watches a unit's block that is going to be written, and those that a device would write which has too few address
+    /// bits, or which forgets where the unit begins.
+    pub fn watch_write(&mut self, first: usize, block: usize) {
+        for block in [first + block, block] {
+            self.watch(block);
+            WRAPS.iter().for_each(|wrap| self.watch(block % wrap));
+        }
     }
 
     pub fn compare_watched(&self) -> Result<(), String> {

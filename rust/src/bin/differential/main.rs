@@ -1,5 +1,5 @@
 //! The differential test: random events are played on the ordinary and on the proved device, and after each event
-//! the answer, the whole buffer, the whole medium and the whole record must be the same. Of a medium of more than 4,096
+//! the answer, the whole buffer, the whole medium, the whole record and the whole table must be the same. Of a medium of more than 4,096
 //! blocks the blocks in use must be the same after each event, and all at the end of its trial.
 //!
 //! `cargo run --release --bin differential -- [--seed N] [--events N] [--seconds N]`
@@ -24,12 +24,12 @@ mod page_record;
 mod pair;
 mod product_page;
 mod random;
-mod record_size;
 mod refused_block;
 mod requests;
 mod sense_drop;
 mod sense_history;
 mod sense_record;
+mod state;
 mod switch;
 mod switch_drop;
 mod switch_event;
@@ -37,7 +37,16 @@ mod switch_record;
 mod switch_reply;
 mod switch_write;
 mod table;
+mod table_record;
+mod tables;
 mod trial;
+mod unit_command;
+mod unit_medium;
+mod unit_record;
+mod unit_sense;
+mod unit_switch;
+mod unit_write;
+mod units;
 
 use coverage::Coverage;
 use damage::Damage;
@@ -46,6 +55,9 @@ use random::Random;
 use std::process::ExitCode;
 use std::time::{Duration, Instant, SystemTime, UNIX_EPOCH};
 use trial::Trial;
+
+/// Reached records are damaged with media of at most so many blocks.
+const DAMAGED: u32 = 24;
 
 struct Options {
     seed: u64,
@@ -86,21 +98,22 @@ impl Run {
         let mut trial = Trial::new(random);
         let mut pair = trial.pair(&mut self.large);
         loop {
-            let before = pair.record();
-            let event = &trial.events[trial.events.len() - 1];
-            match pair.play(event) {
-                Ok(played) => self.coverage.note(&before, event, &played),
+            let step = &trial.events[trial.events.len() - 1];
+            let before = pair.state_for(step);
+            match pair.play(step) {
+                Ok(played) if step.other.is_some() => self.coverage.note_other(&step.event, &played),
+                Ok(played) => self.coverage.note(&before, &step.event, &played),
                 Err(_) => return Err(trial.report(None)),
             }
             self.events += 1;
-            let record = pair.record();
-            if trial.own.blocks <= 8 && self.damage.wants(&record, self.events) {
-                self.damage.small(random, &record, &trial.own, pair.medium())?;
+            let state = pair.state();
+            if trial.own.blocks() <= DAMAGED && self.damage.wants(&state, self.events) {
+                self.damage.small(random, &state, &trial.own, pair.medium())?;
             }
             if trial.events.len() > trial.length {
                 break;
             }
-            trial.events.push(host::next(random, &record, &trial.own));
+            trial.events.push(host::step(random, &state, &trial.own));
         }
         if let Some(stray) = pair.stray() {
             return Err(trial.report(Some(stray)));
@@ -123,18 +136,20 @@ impl Run {
         }
         self.coverage.print();
         let damage = &self.damage;
-        println!("\ndamaged and invented records");
-        println!("  {:<34}{:>9}", "records with every byte changed", damage.records);
-        println!("  {:<34}{:>9}", "events on records not decoding", damage.undecoded);
-        println!("  {:<34}{:>9}", "events on records not fitting", damage.unfit);
-        println!("  {:<34}{:>9}", "events on records that fit", damage.fit);
-        damage.sizes.print();
+        println!("\ndamaged and invented records and tables");
+        println!("  {:<44}{:>9}", "records and tables with every byte changed", damage.records);
+        println!("  {:<44}{:>9}", "events on records not decoding", damage.undecoded);
+        println!("  {:<44}{:>9}", "events on records or tables not fitting", damage.unfit);
+        println!("  {:<44}{:>9}", "events on records and tables that fit", damage.fit);
+        damage.tables.print();
+        damage.units.print();
         damage.pages.print();
         damage.senses.print();
         damage.switches.print();
         println!("\ntime: {:.1} s", started.elapsed().as_secs_f64());
         let mut missing = self.coverage.missing();
-        missing.extend(self.damage.sizes.missing());
+        missing.extend(self.damage.tables.missing());
+        missing.extend(self.damage.units.missing());
         missing.extend(self.damage.pages.missing());
         missing.extend(self.damage.senses.missing());
         missing.extend(self.damage.switches.missing());
@@ -172,7 +187,7 @@ fn main() -> ExitCode {
     let (events, damaged) = (thousands(run.events), thousands(run.damage.events));
     match result {
         Ok(()) => {
-            println!("and {damaged} events on damaged and invented records");
+            println!("and {damaged} events on damaged and invented records and tables");
             println!("differential: {events} events, no difference (seed {})", options.seed);
             ExitCode::SUCCESS
         }

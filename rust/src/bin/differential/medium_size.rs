@@ -1,15 +1,15 @@
-//! What a run has met of sizes of media (document 02, A5): where a device with another limit, or with too few bits for
+//! What a run has met of sizes of media (document 02, A5 and A7): where a device with another limit, or with too few bits for
 //! a size, goes wrong.
 
 use crate::event::Event;
 use crate::own::LIMIT;
 use crate::pair::Played;
+use crate::state::State;
 use ordinary::device::BLOCK;
-use ordinary::record::Record;
 
-/// The kind and the answer of an event, a name, and whether a medium of so many bytes is meant, lent with a record of so
+/// The kind and the answer of an event, a name, and whether a medium of so many bytes is meant, lent with a table of so
 /// many blocks.
-type Size = (Kind, u32, &'static str, fn(usize, u32) -> bool);
+type Size = (Kind, u32, &'static str, fn(usize, u64) -> bool);
 
 #[derive(Clone, Copy, PartialEq, Eq)]
 enum Kind {
@@ -19,7 +19,7 @@ enum Kind {
 
 const LARGEST: usize = LIMIT as usize * BLOCK;
 
-const SIZES: [Size; 11] = [
+const SIZES: [Size; 12] = [
     (Kind::Make, 1, "1 block", |bytes, _| bytes == BLOCK),
     (Kind::Make, 1, "2 to 4,095 blocks", |bytes, _| (2 * BLOCK..4096 * BLOCK).contains(&bytes)),
     (Kind::Make, 1, "4,096 blocks", |bytes, _| bytes == 4096 * BLOCK),
@@ -28,7 +28,8 @@ const SIZES: [Size; 11] = [
     (Kind::Make, 1, "1,048,576 blocks", |bytes, _| bytes == LARGEST),
     (Kind::Make, 11, "0 bytes", |bytes, _| bytes == 0),
     (Kind::Make, 11, "no multiple of 512 bytes", |bytes, _| !bytes.is_multiple_of(BLOCK)),
-    (Kind::Make, 11, "1,048,577 blocks", |bytes, _| bytes == LARGEST + BLOCK),
+    (Kind::Make, 1, "over 1,048,576 blocks", |bytes, _| bytes > LARGEST),
+    (Kind::Make, 1, "over 2,097,152 blocks", |bytes, _| bytes > 2 * LARGEST),
     (Kind::Bulk, 11, "apart by a multiple of 4,096 blocks", |bytes, blocks| apart(bytes, blocks, 4096)),
     (Kind::Bulk, 11, "apart by a multiple of 65,536 blocks", |bytes, blocks| apart(bytes, blocks, 65_536)),
 ];
@@ -38,14 +39,14 @@ pub struct MediumSizes {
     counts: [u64; SIZES.len()],
 }
 
-/// Whether a size cannot be told from a record's number of blocks by its remainder.
-fn apart(bytes: usize, blocks: u32, modulus: usize) -> bool {
+/// Whether a size cannot be told from a table's number of blocks by its remainder.
+fn apart(bytes: usize, blocks: u64, modulus: usize) -> bool {
     bytes > 0 && bytes.abs_diff(blocks as usize * BLOCK).is_multiple_of(modulus * BLOCK)
 }
 
 impl MediumSizes {
     /// Notes an event that was played on a device that was in the state of `before`.
-    pub fn note(&mut self, before: &Record, event: &Event, played: &Played) {
+    pub fn note(&mut self, before: &State, event: &Event, played: &Played) {
         let kind = match event {
             Event::Make { .. } => Kind::Make,
             Event::BulkOut { .. } | Event::BulkIn { .. } => Kind::Bulk,
@@ -53,7 +54,7 @@ impl MediumSizes {
         };
         let event = (kind, played.answer.number);
         for ((kind, number, _, holds), count) in SIZES.iter().zip(&mut self.counts) {
-            *count += u64::from((*kind, *number) == event && holds(played.medium, before.blocks));
+            *count += u64::from((*kind, *number) == event && holds(played.medium, before.blocks()));
         }
     }
 

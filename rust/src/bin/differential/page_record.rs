@@ -3,9 +3,11 @@
 use crate::event::{Event, KINDS};
 use crate::inquiry::{is_page, PAGES};
 use crate::pair::Played;
+use crate::state::State;
 use crate::table::Table;
 use ordinary::device::{Answer, Device};
 use ordinary::record::{stage, Record};
+use ordinary::unit::Unit;
 
 /// A name, and the record without its one fault; `None` where the record is not meant. A record that fits has none.
 type Region = (&'static str, fn(&Record) -> Option<Record>);
@@ -59,15 +61,16 @@ fn ending(record: &Record, value: u32, past: u32) -> Option<Record> {
     meant.then(|| Record { left: record.left - past, ..*record })
 }
 
-/// Whether a record is not refused with 10.
-pub fn fits(record: Record) -> bool {
-    Device::from_record(&record).is_some_and(|mut device| device.bus_reset() == Answer::Ack)
+/// Whether a record is not refused with 10 where this table is lent.
+pub fn fits(record: Record, units: &[Unit]) -> bool {
+    let device = Device::from_record(&record);
+    device.is_some_and(|mut device| device.bus_reset(&mut units.to_vec()) == Answer::Ack)
 }
 
 impl PageRecords {
     /// Notes an event on a damaged or invented record. An ask on a record that fits counts where it sent the page. A
     /// record that does not fit counts where it has one fault only.
-    pub fn note(&mut self, before: &Record, event: &Event, played: &Played) {
+    pub fn note(&mut self, before: &State, event: &Event, played: &Played) {
         if before.stage < stage::PRODUCT_PAGE {
             return;
         }
@@ -75,7 +78,7 @@ impl PageRecords {
         let asked = matches!(event, Event::BulkIn { .. });
         if number == 10 {
             for ((_, mended), counts) in UNFIT.iter().zip(&mut self.unfit) {
-                counts[kind] += u64::from(mended(before).is_some_and(fits));
+                counts[kind] += u64::from(mended(before).is_some_and(|record| fits(record, &before.units)));
             }
         } else if number == 0 || !asked {
             for ((_, meant), counts) in FIT.iter().zip(&mut self.fit) {

@@ -2,10 +2,12 @@
 //! or that cuts it in another way, goes wrong.
 
 use crate::block_place::{range, OPERATIONS};
-use crate::coverage::{decide, FAILED, PASSED};
+use crate::coverage::{decide, unit_of, FAILED, PASSED};
+use crate::state::State;
 use crate::table::Table;
-use ordinary::record::Record;
 use ordinary::scsi::code;
+use ordinary::unit::Unit;
+use ordinary::wrapper::Cbw;
 use std::ops::RangeInclusive;
 
 /// A verdict, a name, and whether an address and a count are meant in a unit of so many blocks. What failed did so for
@@ -26,7 +28,7 @@ const PLACES: [Place; 10] = [
 ];
 
 /// A name, and whether what Request Sense found is meant.
-type Told = (&'static str, fn(&Record) -> bool);
+type Told = (&'static str, fn(&Unit) -> bool);
 
 const TOLD: [Told; 2] = [
     ("the number of blocks", |found| found.sense_information == found.blocks),
@@ -58,26 +60,27 @@ fn unlike_bytes(number: u32) -> bool {
 }
 
 /// Whether a command fails for its range, and so tells a block.
-pub fn fails_for_range(before: &Record, block: &[u8; 16]) -> bool {
-    decide(before, block).is_err_and(|sense| sense.is_out_of_range())
+pub fn fails_for_range(before: &State, cbw: &Cbw) -> bool {
+    decide(before, cbw).is_err_and(|sense| sense.is_out_of_range())
 }
 
 impl RefusedBlocks {
     /// Notes an accepted wrapper's command and its verdict on a device that was in the state of `before`.
-    pub fn note(&mut self, before: &Record, block: &[u8; 16], verdict: usize) {
+    pub fn note(&mut self, before: &State, cbw: &Cbw, verdict: usize) {
+        let (block, unit) = (cbw.block, unit_of(before, cbw));
         if let Some(operation) = OPERATIONS.iter().position(|(code, _)| *code == block[0]) {
             let (address, count) = range(block);
-            let good = verdict == PASSED || fails_for_range(before, block);
+            let good = verdict == PASSED || fails_for_range(before, cbw);
             for ((owed, _, holds), counts) in PLACES.iter().zip(&mut self.places[operation]) {
-                *counts += u64::from(good && verdict == *owed && holds(address, count, before.blocks));
+                *counts += u64::from(good && verdict == *owed && holds(address, count, unit.blocks));
             }
         }
-        if block[0] == code::REQUEST_SENSE && verdict == PASSED && before.sense().is_out_of_range() {
-            self.note_request(before, block[4]);
+        if block[0] == code::REQUEST_SENSE && verdict == PASSED && unit.sense().is_out_of_range() {
+            self.note_request(unit, block[4]);
         }
     }
 
-    fn note_request(&mut self, found: &Record, length: u8) {
+    fn note_request(&mut self, found: &Unit, length: u8) {
         for ((_, holds), counts) in TOLD.iter().zip(&mut self.requests) {
             for ((_, lengths), count) in LENGTHS.iter().zip(counts) {
                 *count += u64::from(holds(found) && lengths.contains(&length));

@@ -7,6 +7,7 @@ pub type Setup = [u8; 8];
 pub const SET_CONFIGURATION: Setup = [0x00, 0x09, 1, 0, 0, 0, 0, 0];
 pub const SET_NO_CONFIGURATION: Setup = [0x00, 0x09, 0, 0, 0, 0, 0, 0];
 pub const MASS_STORAGE_RESET: Setup = [0x21, 0xFF, 0, 0, 0, 0, 0, 0];
+pub const GET_MAX_LUN: Setup = [0xA1, 0xFE, 0, 0, 0, 0, 1, 0];
 pub const CLEAR_IN: Setup = [0x02, 0x01, 0, 0, 0x81, 0, 0, 0];
 pub const CLEAR_OUT: Setup = [0x02, 0x01, 0, 0, 0x02, 0, 0, 0];
 
@@ -22,7 +23,7 @@ const KNOWN: [Setup; 16] = [
     CLEAR_IN,
     [0x02, 0x03, 0, 0, 0x81, 0, 0, 0],
     MASS_STORAGE_RESET,
-    [0xA1, 0xFE, 0, 0, 0, 0, 1, 0],
+    GET_MAX_LUN,
     [0x80, 0x06, 0, 1, 0, 0, 18, 0],
     [0x80, 0x06, 0, 2, 0, 0, 32, 0],
     [0x80, 0x06, 0, 3, 0, 0, 4, 0],

@@ -4,13 +4,15 @@
 use crate::event::Event;
 use crate::pair::Played;
 use crate::requests::{MASS_STORAGE_RESET, SET_CONFIGURATION, SET_NO_CONFIGURATION};
+use crate::state::State;
 use crate::table::Table;
 use ordinary::record::{stage, Record};
+use ordinary::scsi::Sense;
 
 /// A name, and whether an event is meant.
 pub type Cause = (&'static str, fn(&Event) -> bool);
-/// A name, and whether the state before it is meant.
-type State = (&'static str, fn(&Record) -> bool);
+/// A name, and whether the record before it is meant.
+type Before = (&'static str, fn(&Record) -> bool);
 
 pub const CAUSES: [Cause; 5] = [
     ("making", |event| matches!(event, Event::Make { .. })),
@@ -20,7 +22,7 @@ pub const CAUSES: [Cause; 5] = [
     ("Set Configuration 1", |event| requests(event, &SET_CONFIGURATION)),
 ];
 /// The first that holds counts.
-const STATES: [State; 3] = [
+const STATES: [Before; 3] = [
     ("locked", Record::locked),
     ("wrapper due", |before| before.stage == stage::READY),
     ("status due", Record::status_due),
@@ -38,8 +40,8 @@ fn requests(event: &Event, request: &[u8; 8]) -> bool {
 
 impl SenseDrops {
     /// Notes an event that was played on a device that was in the state of `before`.
-    pub fn note(&mut self, before: &Record, event: &Event, played: &Played) {
-        if !before.sense().is_out_of_range() || played.answer.number != 1 {
+    pub fn note(&mut self, before: &State, event: &Event, played: &Played) {
+        if !before.any_sense(Sense::is_out_of_range) || played.answer.number != 1 {
             return;
         }
         let cause = CAUSES.iter().position(|(_, is)| is(event));

@@ -1,13 +1,15 @@
-//! What a run has met between a range failure and the next Request Sense (document 02, A8): the block that the failure
-//! tells goes with its sense, and stays where the sense stays.
+//! What a run has met between a unit's range failure and its next Request Sense (document 02, A8 and A7): the block that
+//! the failure tells goes with its sense, and stays where the sense stays.
 
-use crate::coverage::{verdict, PASSED, PHASE_ERROR};
+use crate::coverage::{accept, verdict, PASSED, PHASE_ERROR};
 use crate::event::Event;
+use crate::own::MOST;
 use crate::pair::Played;
 use crate::refused_block::fails_for_range;
 use crate::requests::MASS_STORAGE_RESET;
+use crate::state::State;
 use crate::table::Table;
-use ordinary::record::{stage, Record};
+use ordinary::record::stage;
 use ordinary::scsi::code;
 use ordinary::wrapper::Cbw;
 
@@ -28,9 +30,10 @@ enum Between {
     RangeFailure,
     OtherFailure,
     Passed,
+    AnotherUnit,
 }
 
-const BETWEEN: [(Between, &str); 15] = [
+const BETWEEN: [(Between, &str); 16] = [
     (Between::Nothing, "nothing"),
     (Between::Nak, "nak"),
     (Between::Stall, "stall"),
@@ -46,28 +49,30 @@ const BETWEEN: [(Between, &str); 15] = [
     (Between::RangeFailure, "another range failure"),
     (Between::OtherFailure, "another failure"),
     (Between::Passed, "command passed"),
+    (Between::AnotherUnit, "another unit's command"),
 ];
 /// How the allocation length cuts Request Sense.
 const CUTS: [&str; 3] = ["none", "cut", "whole"];
 
 #[derive(Default)]
 pub struct SenseHistory {
-    /// What came since a range failure; `None` where Request Sense came, or no failure yet.
-    since: Option<[bool; BETWEEN.len()]>,
+    /// What came since a range failure of each unit; `None` where Request Sense came, or no failure yet.
+    since: [Option<[bool; BETWEEN.len()]>; MOST as usize],
     /// By what came between and cut.
     counts: [[u64; CUTS.len()]; BETWEEN.len()],
 }
 
 impl SenseHistory {
     /// Notes an event that was played on a device that was in the state of `before`.
-    pub fn note(&mut self, before: &Record, event: &Event, played: &Played) {
+    pub fn note(&mut self, before: &State, event: &Event, played: &Played) {
         let between = match (event, played.answer.number) {
             (Event::Make { .. }, _) => {
-                self.since = None;
+                self.forget();
                 return;
             }
             (Event::BulkOut { packet, .. }, 1) if before.stage == stage::READY => {
-                Cbw::accept(packet).and_then(|cbw| self.note_wrapper(before, &cbw))
+                accept(before, packet).iter().for_each(|cbw| self.note_wrapper(before, cbw));
+                None
             }
             (Event::BulkOut { .. }, 3) if !before.halt_out() => Some(Between::Lock),
             (_, 2) => Some(Between::Nak),
@@ -78,36 +83,39 @@ impl SenseHistory {
             (Event::Control { setup, .. }, 1) => acked(setup),
             _ => None,
         };
-        if let (Some(since), Some(between)) = (&mut self.since, between) {
-            since[between as usize] = true;
+        if let Some(between) = between {
+            self.since.iter_mut().for_each(|since| came(since, between));
         }
     }
 
-    /// A range failure opens the list, and Request Sense ends it. All else is told.
-    fn note_wrapper(&mut self, before: &Record, cbw: &Cbw) -> Option<Between> {
+    /// What comes now is not part of the lists.
+    pub fn forget(&mut self) {
+        self.since = Default::default();
+    }
+
+    /// A range failure opens its unit's list, and Request Sense ends it. All else is told.
+    fn note_wrapper(&mut self, before: &State, cbw: &Cbw) {
         let (_, verdict) = verdict(before, cbw);
-        if verdict == PHASE_ERROR {
-            return Some(Between::PhaseError);
-        }
-        if fails_for_range(before, cbw.block) {
-            if self.since.is_some() {
-                return Some(Between::RangeFailure);
+        for (unit, since) in (0..).zip(&mut self.since) {
+            if unit != cbw.unit {
+                came(since, Between::AnotherUnit);
             }
-            self.since = Some([false; BETWEEN.len()]);
-            return None;
         }
+        let own = &mut self.since[usize::from(cbw.unit)];
         match (verdict, cbw.block[0]) {
-            (PASSED, code::REQUEST_SENSE) => {
-                self.end(cbw.block[4]);
-                None
+            (PHASE_ERROR, _) => came(own, Between::PhaseError),
+            _ if fails_for_range(before, cbw) => {
+                came(own, Between::RangeFailure);
+                own.get_or_insert([false; BETWEEN.len()]);
             }
-            (PASSED, _) => Some(Between::Passed),
-            _ => Some(Between::OtherFailure),
+            (PASSED, code::REQUEST_SENSE) => self.end(cbw.unit, cbw.block[4]),
+            (PASSED, _) => came(own, Between::Passed),
+            _ => came(own, Between::OtherFailure),
         }
     }
 
-    fn end(&mut self, length: u8) {
-        let Some(mut since) = self.since.take() else { return };
+    fn end(&mut self, unit: u8, length: u8) {
+        let Some(mut since) = self.since[usize::from(unit)].take() else { return };
         since[Between::Nothing as usize] = !since.contains(&true);
         let cut = match length {
             0 => 0,
@@ -132,6 +140,10 @@ impl SenseHistory {
     pub fn missing(&self) -> Vec<String> {
         self.table().missing()
     }
+}
+
+fn came(since: &mut Option<[bool; BETWEEN.len()]>, between: Between) {
+    since.iter_mut().for_each(|since| since[between as usize] = true);
 }
 
 /// A control request that was done, by its first two bytes.

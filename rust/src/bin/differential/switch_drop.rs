@@ -1,17 +1,18 @@
-//! What a run has met of resets with the write switch closed (document 02, A4): none moves it but a making, from no
+//! What a run has met of resets with a write switch closed (document 02, A4): none moves it but a making, from no
 //! state.
 
 use crate::event::Event;
 use crate::pair::Played;
 use crate::sense_drop::CAUSES;
+use crate::state::State;
 use crate::table::Table;
 use ordinary::record::{stage, Record};
 
-/// A name, and whether the state before it is meant.
-type State = (&'static str, fn(&Record) -> bool);
+/// A name, and whether the record before it is meant.
+type Before = (&'static str, fn(&Record) -> bool);
 
 /// The first that holds counts. Unconfigured, a Mass Storage Reset stalls.
-const STATES: [State; 6] = [
+const STATES: [Before; 6] = [
     ("unconfigured", |before| !before.configured()),
     ("locked", Record::locked),
     ("wrapper due", |before| before.stage == stage::READY),
@@ -28,8 +29,8 @@ pub struct SwitchDrops {
 
 impl SwitchDrops {
     /// Notes an event that was played on a device that was in the state of `before`.
-    pub fn note(&mut self, before: &Record, event: &Event, played: &Played) {
-        if !before.closed() || played.answer.number >= 10 {
+    pub fn note(&mut self, before: &State, event: &Event, played: &Played) {
+        if !before.any_closed() || played.answer.number >= 10 {
             return;
         }
         let cause = CAUSES.iter().position(|(_, is)| is(event));
@@ -41,7 +42,7 @@ impl SwitchDrops {
 
     fn table(&self) -> Table<'_> {
         let rows = CAUSES.iter().zip(&self.counts).map(|((name, _), counts)| (name, &counts[..]));
-        Table::new("resets with the switch closed, by state", STATES.map(|(name, _)| name), rows)
+        Table::new("resets with a switch closed, by state", STATES.map(|(name, _)| name), rows)
     }
 
     pub fn print(&self) {

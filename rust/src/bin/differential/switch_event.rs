@@ -3,19 +3,20 @@
 
 use crate::event::Event;
 use crate::pair::Played;
+use crate::state::State;
 use crate::switch::{CLOSED, OPEN};
 use crate::table::Table;
-use ordinary::record::{stage, Record};
+use ordinary::record::stage;
 
 /// A name, and whether the state before the event is meant.
-type State = (&'static str, fn(&Record) -> bool);
+type Before = (&'static str, fn(&State) -> bool);
 
-const STATES: [State; 11] = [
+pub const STATES: [Before; 11] = [
     ("unconfigured", |before| !before.configured()),
-    ("locked", Record::locked),
+    ("locked", |before| before.locked()),
     ("bulk-in halted", |before| before.halt_in() && !before.locked()),
     ("bulk-out halted", |before| before.halt_out() && !before.locked()),
-    ("a sense held", |before| !before.sense().is_zero()),
+    ("a sense held", |before| before.senses() > 0),
     ("wrapper due", |before| before.stage == stage::READY && before.configured() && !before.locked()),
     ("Write's data due", |before| before.stage == stage::DATA_OUT),
     ("Read's data due", |before| before.stage == stage::DATA_IN),
@@ -24,7 +25,7 @@ const STATES: [State; 11] = [
         let replies = [stage::REQUEST_SENSE, stage::INQUIRY, stage::READ_CAPACITY, stage::PRODUCT_PAGE];
         replies.contains(&before.stage)
     }),
-    ("status due", Record::status_due),
+    ("status due", |before| before.status_due()),
 ];
 const CHANGES: [&str; 6] = ["open, kept", "closes", "opens", "closed, kept", "open, 10", "closed, 10"];
 
@@ -36,9 +37,10 @@ pub struct SwitchEvents {
 
 impl SwitchEvents {
     /// Notes an event that was played on a device that was in the state of `before`.
-    pub fn note(&mut self, before: &Record, event: &Event, played: &Played) {
-        let Event::Switch { position } = *event else { return };
-        let change = match (before.write_switch, position, played.answer.number) {
+    pub fn note(&mut self, before: &State, event: &Event, played: &Played) {
+        let Event::Switch { position, unit } = *event else { return };
+        let Some(unit) = before.units.get(usize::from(unit)) else { return };
+        let change = match (unit.write_switch, position, played.answer.number) {
             (OPEN, OPEN, 1) => 0,
             (OPEN, CLOSED, 1) => 1,
             (CLOSED, OPEN, 1) => 2,

@@ -1,16 +1,18 @@
-//! What a run has met of the write switch in damaged and invented records (document 02, A4): number 10 follows its
+//! What a run has met of write switches in damaged and invented records and tables (document 02, A4): number 10 follows its
 //! position and the one that Mode Sense found, and the two need not be the same.
 
 use crate::event::{Event, KINDS};
 use crate::page_record::fits;
 use crate::pair::Played;
+use crate::state::State;
 use crate::switch::{CLOSED, OPEN};
 use crate::table::Table;
 use ordinary::record::{stage, Record};
+use ordinary::unit::Unit;
 
-/// A name, and whether a record that fits is meant.
-type Fit = (&'static str, fn(&Record) -> bool);
-/// A name, and whether the switch, or the value of a record in the stage of Mode Sense, is meant.
+/// A name, and whether a state that fits is meant.
+type Fit = (&'static str, fn(&State) -> bool);
+/// A name, and whether the switch of a unit, or the value of a record in the stage of Mode Sense, is meant.
 type Unfit = (&'static str, Field, fn(u32) -> bool);
 
 #[derive(Clone, Copy, PartialEq, Eq)]
@@ -20,13 +22,13 @@ enum Field {
 }
 
 const FIT: [Fit; 7] = [
-    ("closed, unconfigured, fits", |record| record.closed() && !record.configured()),
-    ("closed, locked, fits", |record| record.closed() && record.locked()),
-    ("closed, stage 1, fits", |record| record.closed() && record.stage == stage::DATA_OUT),
-    ("stage 5, value 0, open, fits", |record| modes(record, 0, OPEN)),
-    ("stage 5, value 0, closed, fits", |record| modes(record, 0, CLOSED)),
-    ("stage 5, value 1, open, fits", |record| modes(record, 1, OPEN)),
-    ("stage 5, value 1, closed, fits", |record| modes(record, 1, CLOSED)),
+    ("closed, unconfigured, fits", |state| state.any_closed() && !state.configured()),
+    ("closed, locked, fits", |state| state.any_closed() && state.locked()),
+    ("closed, stage 1, fits", |state| state.any_closed() && state.stage == stage::DATA_OUT),
+    ("stage 5, value 0, open, fits", |state| modes(state, 0, OPEN)),
+    ("stage 5, value 0, closed, fits", |state| modes(state, 0, CLOSED)),
+    ("stage 5, value 1, open, fits", |state| modes(state, 1, OPEN)),
+    ("stage 5, value 1, closed, fits", |state| modes(state, 1, CLOSED)),
 ];
 /// A device that looks at the lowest bit or byte alone takes each for open or for closed.
 const UNFIT: [Unfit; 10] = [
@@ -54,26 +56,37 @@ pub struct SwitchRecords {
     no_position: [u64; NO_POSITION.len()],
 }
 
-fn modes(record: &Record, value: u32, position: u8) -> bool {
-    (record.stage, record.value, record.write_switch) == (stage::MODE_SENSE, value, position)
+/// Mode Sense is in hand with this value, and its unit's switch is at this position.
+fn modes(state: &State, value: u32, position: u8) -> bool {
+    let own = state.own_unit().map(|unit| unit.write_switch);
+    (state.stage, state.value, own) == (stage::MODE_SENSE, value, Some(position))
 }
 
-/// The field that is meant, and the record with a good one in its place; `None` in another stage.
-fn mended(record: &Record, field: Field) -> Option<(u32, Record)> {
+/// The field that is meant, and whether the state with a good one in its place fits; `None` in another stage. Of
+/// several units' switches the first that is none of the positions is meant.
+fn mended(state: &State, field: Field) -> Option<(u32, bool)> {
     match field {
-        Field::Switch => Some((record.write_switch.into(), Record { write_switch: OPEN, ..*record })),
-        Field::Value if record.stage != stage::MODE_SENSE => None,
-        Field::Value => Some((record.value, Record { value: 0, ..*record })),
+        Field::Switch => {
+            let at = state.units.iter().position(|unit| unit.switch().is_none())?;
+            let mut units = state.units.clone();
+            let found = std::mem::replace(&mut units[at].write_switch, OPEN);
+            Some((found.into(), fits(state.record, &units)))
+        }
+        Field::Value if state.stage != stage::MODE_SENSE => None,
+        Field::Value => {
+            let record = Record { value: 0, ..state.record };
+            Some((state.value, fits(record, &state.units)))
+        }
     }
 }
 
 impl SwitchRecords {
     /// Notes an event on a damaged or invented record. One that does not fit counts where it has one fault only.
-    pub fn note(&mut self, before: &Record, event: &Event, played: &Played) {
+    pub fn note(&mut self, before: &State, event: &Event, played: &Played) {
         let (kind, number) = (event.kind(), played.answer.number);
         if number == 10 {
             for ((_, field, holds), counts) in UNFIT.iter().zip(&mut self.unfit) {
-                let meant = mended(before, *field).is_some_and(|(found, good)| holds(found) && fits(good));
+                let meant = mended(before, *field).is_some_and(|(found, fits)| holds(found) && fits);
                 counts[kind] += u64::from(meant);
             }
         } else {
@@ -83,13 +96,14 @@ impl SwitchRecords {
         }
         let third = before.place <= 2 && before.left > 2 - before.place;
         if let (Event::BulkIn { .. }, 0, stage::MODE_SENSE, true) = (event, number, before.stage, third) {
-            self.sent[before.value as usize][usize::from(before.closed())] += 1;
+            let closed = before.own_unit().is_some_and(Unit::closed);
+            self.sent[before.value as usize][usize::from(closed)] += 1;
         }
     }
 
     /// Notes a switch event whose position is none: it was refused.
-    pub fn note_no_position(&mut self, before: &Record) {
-        self.no_position[usize::from(!fits(*before))] += 1;
+    pub fn note_no_position(&mut self, before: &State) {
+        self.no_position[usize::from(!fits(before.record, &before.units))] += 1;
     }
 
     fn tables(&self) -> [Table<'_>; 3] {

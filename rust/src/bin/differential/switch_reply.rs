@@ -1,12 +1,14 @@
 //! What a run has met of replies that tell of the write switch (document 02, A4): Mode Sense shows the position that its
 //! wrapper found, and Request Sense sends 07/27/00 whatever the switch is by then.
 
-use crate::coverage::{verdict, PASSED};
+use crate::coverage::{accept, unit_of, verdict, PASSED};
 use crate::event::Event;
 use crate::pair::Played;
+use crate::state::State;
 use crate::table::Table;
-use ordinary::record::{stage, Record};
+use ordinary::record::stage;
 use ordinary::scsi::{code, Sense};
+use ordinary::unit::Unit;
 use ordinary::wrapper::Cbw;
 
 /// The position that the wrapper found, and the one at the ask.
@@ -31,29 +33,31 @@ pub struct SwitchReplies {
 
 impl SwitchReplies {
     /// Notes an event that was played on a device that was in the state of `before`.
-    pub fn note(&mut self, before: &Record, event: &Event, played: &Played) {
+    pub fn note(&mut self, before: &State, event: &Event, played: &Played) {
         match (event, played.answer.number, before.stage) {
             (Event::BulkIn { .. }, 0, stage::MODE_SENSE) => {
-                let positions = 2 * usize::from(before.value == 1) + usize::from(before.closed());
+                let closed = before.own_unit().is_some_and(Unit::closed);
+                let positions = 2 * usize::from(before.value == 1) + usize::from(closed);
                 self.modes[positions][usize::from(played.answer.count > 2)] += 1;
             }
             (Event::BulkOut { packet, .. }, 1, stage::READY) => {
-                let cbw = Cbw::accept(packet);
+                let cbw = accept(before, packet);
                 cbw.iter().for_each(|cbw| self.note_wrapper(before, cbw));
             }
             _ => {}
         }
     }
 
-    fn note_wrapper(&mut self, before: &Record, cbw: &Cbw) {
+    fn note_wrapper(&mut self, before: &State, cbw: &Cbw) {
+        let unit = unit_of(before, cbw);
         let asked = cbw.block[0] == code::REQUEST_SENSE && verdict(before, cbw).1 == PASSED;
-        if asked && before.sense() == Sense::WRITE_PROTECTED {
+        if asked && unit.sense() == Sense::WRITE_PROTECTED {
             let cut = match cbw.block[4] {
                 0 => 0,
                 1..18 => 1,
                 _ => 2,
             };
-            self.senses[usize::from(before.closed())][cut] += 1;
+            self.senses[usize::from(unit.closed())][cut] += 1;
         }
     }
 

@@ -1,17 +1,19 @@
-//! What a run has met of commands with the write switch closed (document 02, A4): Writes that it refuses, those that
+//! What a run has met of commands with their unit's write switch closed (document 02, A4): Writes that it refuses, those that
 //! another check refuses first, those under way, and the commands that it leaves alone.
 
 use crate::block_place::{completes, range};
 use crate::control_byte;
-use crate::coverage::{verdict, COMMANDS, PASSED};
+use crate::coverage::{accept, unit_of, verdict, COMMANDS, PASSED};
 use crate::event::Event;
 use crate::pair::Played;
+use crate::state::State;
 use crate::table::Table;
 use ordinary::cases::Case;
 use ordinary::device::PACKET;
 use ordinary::record::{stage, Record};
 use ordinary::scsi::{self, code, Data, Sense};
 use ordinary::switch::Switch;
+use ordinary::unit::Unit;
 use ordinary::wrapper::Cbw;
 
 /// The meetings that a Write would have had with the switch open. Refused, it has no data in any of them.
@@ -46,26 +48,33 @@ pub struct SwitchWrites {
 
 impl SwitchWrites {
     /// Notes an event that was played on a device that was in the state of `before`.
-    pub fn note(&mut self, before: &Record, event: &Event, played: &Played) {
-        let (Event::BulkOut { packet, .. }, 1, true) = (event, played.answer.number, before.closed()) else {
-            return;
-        };
-        match (before.stage, Cbw::accept(packet)) {
-            (stage::READY, Some(cbw)) if cbw.block[0] == code::WRITE => self.note_write(before, &cbw),
-            (stage::READY, Some(cbw)) => self.note_other(before, &cbw),
-            (stage::DATA_OUT, _) => self.note_data(before, packet),
+    pub fn note(&mut self, before: &State, event: &Event, played: &Played) {
+        let (Event::BulkOut { packet, .. }, 1) = (event, played.answer.number) else { return };
+        match before.stage {
+            stage::READY => {
+                let cbw = accept(before, packet).filter(|cbw| unit_of(before, cbw).closed());
+                cbw.iter().for_each(|cbw| self.note_wrapper(before, cbw));
+            }
+            stage::DATA_OUT if before.own_unit().is_some_and(Unit::closed) => self.note_data(before, packet),
             _ => {}
         }
     }
 
-    fn note_write(&mut self, before: &Record, cbw: &Cbw) {
+    fn note_wrapper(&mut self, before: &State, cbw: &Cbw) {
+        match cbw.block[0] {
+            code::WRITE => self.note_write(unit_of(before, cbw), cbw),
+            _ => self.note_other(before, cbw),
+        }
+    }
+
+    fn note_write(&mut self, unit: &Unit, cbw: &Cbw) {
         let announced = match (cbw.announced, cbw.data_in) {
             (0, _) => 0,
             (_, true) => 1,
             (_, false) => 2,
         };
-        match scsi::decide(cbw.block, before.sense(), before.blocks, Switch::Open) {
-            Ok(data) => self.note_refused(before.sense(), cbw, &data),
+        match scsi::decide(cbw.block, unit.sense(), unit.blocks, Switch::Open) {
+            Ok(data) => self.note_refused(unit.sense(), cbw, &data),
             Err(sense) => self.first[first(cbw.block, sense)][announced] += 1,
         }
     }
@@ -84,7 +93,7 @@ impl SwitchWrites {
         }
     }
 
-    fn note_other(&mut self, before: &Record, cbw: &Cbw) {
+    fn note_other(&mut self, before: &State, cbw: &Cbw) {
         let known = COMMANDS.iter().position(|(code, _)| *code == cbw.block[0]);
         if let (Some(index), (_, PASSED)) = (known, verdict(before, cbw)) {
             self.passed[index][0] += 1;

@@ -1,18 +1,21 @@
-//! A trial: a medium, a making, and the events after it. It can be played again and shrunk.
+//! A trial: a table of units, a medium, a making, and the events after it. It can be played again and shrunk.
 
-use crate::event::{Event, Lent};
+use crate::compare::show_table;
+use crate::event::{Event, Lent, Step};
 use crate::host;
 use crate::large_media::LargeMedia;
 use crate::own::{self, Own, SMALL};
 use crate::pair::Pair;
 use crate::random::Random;
+use crate::state::State;
+use crate::tables;
 use ordinary::record::Record;
 
 pub struct Trial {
     seed: u64,
     pub own: Own,
     pub length: usize,
-    pub events: Vec<Event>,
+    pub events: Vec<Step>,
     /// A block that is compared after each event although nothing asks for it.
     stray: Option<usize>,
 }
@@ -21,19 +24,27 @@ impl Trial {
     /// Mostly the smallest media. Those of up to `SMALL` blocks are compared whole after each event: of the longest
     /// of these the trials are short.
     pub fn new(random: &mut Random) -> Trial {
-        let (blocks, length) = match random.below(100) {
-            0 => (SMALL - if random.one_in(4) { random.below(3967) as u32 } else { 0 }, 150),
-            1..=5 => (1 + random.below(128) as u32, 400),
-            6 | 7 => (own::large(random), 1000),
-            _ => (1 + random.below(8) as u32, 100 + random.below(700)),
+        let (sizes, length) = match random.below(100) {
+            0 => (vec![SMALL - if random.one_in(4) { random.below(3967) as u32 } else { 0 }], 150),
+            1..=5 => (own::several(random, |random| 1 + random.below(64) as u32), 400),
+            6..=9 => (own::large_units(random), 1000),
+            _ => (own::several(random, |random| 1 + random.below(8) as u32), 100 + random.below(700)),
         };
+        let making = Event::Make { identity: host::identity(random), medium: Lent::Own };
         Trial {
             seed: random.number(),
-            own: Own::new(random, blocks),
+            own: Own::new(random, sizes),
             length: length as usize,
-            events: vec![Event::Make { identity: host::identity(random), medium: Lent::Own }],
+            events: vec![Step::own(making)],
             stray: None,
         }
+    }
+
+    /// The table is as a collector before left it: any senses and any switches, which the making overwrites.
+    fn before(&self) -> State {
+        let mut units = self.own.units();
+        tables::spoil(&mut Random::new(self.seed), &mut units);
+        State { record: Record::ZERO, units }
     }
 
     /// Both devices before the making. A large medium is made ready in `media`.
@@ -41,15 +52,15 @@ impl Trial {
         if self.own.is_large() {
             media.begin(&self.own, self.seed);
             self.stray.iter().for_each(|block| media.watch(*block));
-            Pair::large(Record::ZERO, media)
+            Pair::large(self.before(), media)
         } else {
-            Pair::small(Record::ZERO, Random::new(self.seed).bytes(self.own.bytes() as u64))
+            Pair::small(self.before(), Random::new(self.seed).bytes(self.own.bytes() as u64))
         }
     }
 
     /// The number of events up to the first difference, and the difference. Each time the memory is new, for after a
     /// difference anything may have been written.
-    fn replay(&self, events: &[Event]) -> Option<(usize, String)> {
+    fn replay(&self, events: &[Step]) -> Option<(usize, String)> {
         let mut media = LargeMedia::default();
         let mut pair = self.pair(&mut media);
         let mut differs = |event| pair.play(event).err();
@@ -92,7 +103,7 @@ impl Trial {
     }
 
     fn print(&self) {
-        println!("own medium: {} blocks", self.own.blocks);
+        println!("own table: {}", show_table(&self.before().units));
         for (at, event) in self.events.iter().enumerate() {
             println!("{:>4} {event}", at + 1);
         }

@@ -1,10 +1,11 @@
 //! The figures of the ordinary and of the proved device, in lines of words parted by tabs; the script `bench` makes
 //! the table of them.
 //!
-//! - `figures time`: for each kind of event the quartiles of its time, then those of long transfers, then those of the
-//!   same events over small and large media.
+//! - `figures time`: for each kind of event the quartiles of its time, with one unit and with four, then those of long
+//!   transfers, then those of the same events over small and large units.
 //! - `figures count <kind> ordinary|proved|idle <events>`: plays so many events, to count instructions from outside.
-//!   A kind of `stores` is written with the number of its medium, as in `wrapper@2`.
+//!   A kind on a table of four units is written as in `wrapper/4`, one of `stores` with the number of its unit's size, as
+//!   in `wrapper@2`.
 
 mod scene;
 mod side;
@@ -13,13 +14,17 @@ mod time;
 
 use ordinary::device::Device;
 use ordinary::record::Record;
+use ordinary::scsi::code;
+use ordinary::unit::Unit;
 use scene::{scenes, Scene};
-use side::{play, Idle, Side};
+use side::{play, Idle, Seat, Side};
 use std::hint::black_box;
 use std::process::ExitCode;
 use stores::STORES;
 
 const MOST_COUNTED: usize = 2000;
+/// The most units.
+const FOUR: usize = 4;
 
 fn line(kind: &str, key: &str, name: &str, values: &[time::Quartiles]) {
     let values: Vec<String> = values.as_flattened().iter().map(|value| format!("{value:.2}")).collect();
@@ -27,22 +32,29 @@ fn line(kind: &str, key: &str, name: &str, values: &[time::Quartiles]) {
 }
 
 fn times() {
-    println!("sizes\t{}\t{}", size_of::<Device>(), size_of::<Record>());
-    for scene in scenes() {
-        line("event", scene.key, scene.name, &time::events(&scene));
+    println!("sizes\t{}\t{}\t{}", size_of::<Device>(), size_of::<Record>(), size_of::<Unit>());
+    for scene in scenes(1) {
+        line("event", scene.key, &scene.name, &time::events(&scene));
     }
-    line("rate", "read", "Read(10) of 64 KiB", &time::transfers(true));
-    line("rate", "write", "Write(10) of 64 KiB", &time::transfers(false));
+    for scene in scenes(FOUR) {
+        line("event", &format!("{}/{FOUR}", scene.key), &scene.name, &time::events(&scene));
+    }
+    for (count, tail) in [(1, ""), (FOUR, ", 4 units")] {
+        for (code, name) in [(code::READ, "Read(10) of 64 KiB"), (code::WRITE, "Write(10) of 64 KiB")] {
+            line("rate", name, &format!("{name}{tail}"), &time::transfers(code, count));
+        }
+    }
     let [small, large, end] = STORES.map(stores::scenes);
     for ((small, large), end) in small.into_iter().zip(large).zip(end) {
-        line("store", small.key, small.name, &time::by_turns(&[&small, &large, &end]));
+        line("store", small.key, &small.name, &time::by_turns(&[&small, &large, &end]));
     }
 }
 
 fn find(key: &str) -> Option<Scene> {
-    let (key, scenes) = match key.split_once('@') {
-        Some((key, store)) => (key, stores::scenes(*STORES.get(store.parse::<usize>().ok()?)?)),
-        None => (key, scenes()),
+    let (key, scenes) = match (key.split_once('@'), key.split_once('/')) {
+        (Some((key, store)), _) => (key, stores::scenes(*STORES.get(store.parse::<usize>().ok()?)?)),
+        (_, Some((key, "4"))) => (key, scenes(FOUR)),
+        _ => (key, scenes(1)),
     };
     scenes.into_iter().find(|scene| scene.key == key)
 }
@@ -50,9 +62,9 @@ fn find(key: &str) -> Option<Scene> {
 /// The devices are prepared for the longest run, so that runs differ by their events alone.
 fn count<S: Side>(scene: &Scene, events: usize) {
     let (mut medium, mut buffer) = (scene.medium(), [0; 64]);
-    let mut devices = vec![S::new(&scene.before); MOST_COUNTED];
-    play(&mut devices[..events], &scene.input, &mut medium, &mut buffer);
-    black_box((devices, medium, buffer));
+    let mut seats = vec![Seat::<S>::new(&scene.before); MOST_COUNTED];
+    play(&mut seats[..events], &scene.input, &mut medium, &mut buffer);
+    black_box((&seats[..], medium, buffer));
 }
 
 fn main() -> ExitCode {

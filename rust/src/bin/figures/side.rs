@@ -1,18 +1,19 @@
 //! The two devices under one name each, so that both are driven by the same loops.
 
-use crate::scene::Input;
+use crate::scene::{Input, State};
 use ordinary::capi;
 use ordinary::device::{Device, PACKET};
 use ordinary::record::Record;
+use ordinary::unit::{Unit, MAX_UNITS};
 use std::hint::black_box;
 
 pub trait Side: Clone {
     fn new(record: &Record) -> Self;
     /// Each gives back document 01's number.
-    fn control(&mut self, setup: &[u8], buffer: &mut [u8]) -> u32;
-    fn bulk_out(&mut self, medium: &mut [u8], packet: &[u8]) -> u32;
-    fn bulk_in(&mut self, medium: &[u8], buffer: &mut [u8]) -> u32;
-    fn set_switch(&mut self, position: u8) -> u32;
+    fn control(&mut self, units: &mut [Unit], setup: &[u8], buffer: &mut [u8]) -> u32;
+    fn bulk_out(&mut self, units: &mut [Unit], medium: &mut [u8], packet: &[u8]) -> u32;
+    fn bulk_in(&mut self, units: &[Unit], medium: &[u8], buffer: &mut [u8]) -> u32;
+    fn set_switch(&mut self, units: &mut [Unit], position: u8, unit: u8) -> u32;
 }
 
 impl Side for Device {
@@ -20,20 +21,20 @@ impl Side for Device {
         Device::from_record(record).expect("the record was written by the device")
     }
 
-    fn control(&mut self, setup: &[u8], buffer: &mut [u8]) -> u32 {
-        Device::control(self, setup, buffer).number()
+    fn control(&mut self, units: &mut [Unit], setup: &[u8], buffer: &mut [u8]) -> u32 {
+        Device::control(self, units, setup, buffer).number()
     }
 
-    fn bulk_out(&mut self, medium: &mut [u8], packet: &[u8]) -> u32 {
-        Device::bulk_out(self, medium, packet).number()
+    fn bulk_out(&mut self, units: &mut [Unit], medium: &mut [u8], packet: &[u8]) -> u32 {
+        Device::bulk_out(self, units, medium, packet).number()
     }
 
-    fn bulk_in(&mut self, medium: &[u8], buffer: &mut [u8]) -> u32 {
-        Device::bulk_in(self, medium, buffer).number()
+    fn bulk_in(&mut self, units: &[Unit], medium: &[u8], buffer: &mut [u8]) -> u32 {
+        Device::bulk_in(self, units, medium, buffer).number()
     }
 
-    fn set_switch(&mut self, position: u8) -> u32 {
-        Device::set_switch(self, position).number()
+    fn set_switch(&mut self, units: &mut [Unit], position: u8, unit: u8) -> u32 {
+        Device::set_switch(self, units, position, unit).number()
     }
 }
 
@@ -43,20 +44,20 @@ impl Side for Record {
         *record
     }
 
-    fn control(&mut self, setup: &[u8], buffer: &mut [u8]) -> u32 {
-        capi::control(self, setup, buffer).number
+    fn control(&mut self, units: &mut [Unit], setup: &[u8], buffer: &mut [u8]) -> u32 {
+        capi::control(self, units, setup, buffer).number
     }
 
-    fn bulk_out(&mut self, medium: &mut [u8], packet: &[u8]) -> u32 {
-        capi::bulk_out(self, medium, packet).number
+    fn bulk_out(&mut self, units: &mut [Unit], medium: &mut [u8], packet: &[u8]) -> u32 {
+        capi::bulk_out(self, units, medium, packet).number
     }
 
-    fn bulk_in(&mut self, medium: &[u8], buffer: &mut [u8]) -> u32 {
-        capi::bulk_in(self, medium, buffer).number
+    fn bulk_in(&mut self, units: &[Unit], medium: &[u8], buffer: &mut [u8]) -> u32 {
+        capi::bulk_in(self, units, medium, buffer).number
     }
 
-    fn set_switch(&mut self, position: u8) -> u32 {
-        capi::set_switch(self, position).number
+    fn set_switch(&mut self, units: &mut [Unit], position: u8, unit: u8) -> u32 {
+        capi::set_switch(self, units, position, unit).number
     }
 }
 
@@ -70,42 +71,74 @@ impl Side for Idle {
     }
 
     #[inline(never)]
-    fn control(&mut self, _: &[u8], _: &mut [u8]) -> u32 {
+    fn control(&mut self, _: &mut [Unit], _: &[u8], _: &mut [u8]) -> u32 {
         black_box(self).0.locked().into()
     }
 
     #[inline(never)]
-    fn bulk_out(&mut self, _: &mut [u8], _: &[u8]) -> u32 {
+    fn bulk_out(&mut self, _: &mut [Unit], _: &mut [u8], _: &[u8]) -> u32 {
         black_box(self).0.locked().into()
     }
 
     #[inline(never)]
-    fn bulk_in(&mut self, _: &[u8], _: &mut [u8]) -> u32 {
+    fn bulk_in(&mut self, _: &[Unit], _: &[u8], _: &mut [u8]) -> u32 {
         black_box(self).0.locked().into()
     }
 
     #[inline(never)]
-    fn set_switch(&mut self, _: u8) -> u32 {
+    fn set_switch(&mut self, _: &mut [Unit], _: u8, _: u8) -> u32 {
         black_box(self).0.locked().into()
+    }
+}
+
+/// A device and the table that is lent to it.
+#[derive(Clone)]
+pub struct Seat<S> {
+    device: S,
+    table: [Unit; MAX_UNITS],
+    count: usize,
+}
+
+impl<S: Side> Seat<S> {
+    pub fn new(state: &State) -> Seat<S> {
+        let (mut table, count) = ([Unit::new(0, 0); MAX_UNITS], state.units.len());
+        table[..count].copy_from_slice(&state.units);
+        Seat { device: S::new(&state.record), table, count }
+    }
+
+    pub fn control(&mut self, setup: &[u8], buffer: &mut [u8]) -> u32 {
+        self.device.control(&mut self.table[..self.count], setup, buffer)
+    }
+
+    pub fn bulk_out(&mut self, medium: &mut [u8], packet: &[u8]) -> u32 {
+        self.device.bulk_out(&mut self.table[..self.count], medium, packet)
+    }
+
+    pub fn bulk_in(&mut self, medium: &[u8], buffer: &mut [u8]) -> u32 {
+        self.device.bulk_in(&self.table[..self.count], medium, buffer)
+    }
+
+    fn set_switch(&mut self, position: u8, unit: u8) -> u32 {
+        self.device.set_switch(&mut self.table[..self.count], position, unit)
     }
 }
 
 /// Plays the input on each device; a refusal or stall would be measured for nothing, so the numbers are summed:
 /// each answer is 0 or 1.
-pub fn play<S: Side>(devices: &mut [S], input: &Input, medium: &mut [u8], buffer: &mut [u8]) -> u32 {
+pub fn play<S: Side>(seats: &mut [Seat<S>], input: &Input, medium: &mut [u8], buffer: &mut [u8]) -> u32 {
     let mut sum = 0;
     match black_box(input) {
-        Input::Control(setup) => devices.iter_mut().for_each(|device| sum += device.control(setup, buffer)),
-        Input::Wrapper(packet) => {
-            devices.iter_mut().for_each(|device| sum += device.bulk_out(medium, packet))
-        }
-        Input::Data(packets) => devices.iter_mut().for_each(|device| {
+        Input::Control(setup) => seats.iter_mut().for_each(|seat| sum += seat.control(setup, buffer)),
+        Input::Wrapper(packet) => seats.iter_mut().for_each(|seat| sum += seat.bulk_out(medium, packet)),
+        Input::Data(packets) => seats.iter_mut().for_each(|seat| {
             for _ in 0..*packets {
-                sum += device.bulk_out(medium, &[0x5A; PACKET]);
+                sum += seat.bulk_out(medium, &[0x5A; PACKET]);
             }
         }),
-        Input::Ask => devices.iter_mut().for_each(|device| sum += device.bulk_in(medium, buffer)),
-        Input::Switch(position) => devices.iter_mut().for_each(|device| sum += device.set_switch(*position)),
+        Input::Ask => seats.iter_mut().for_each(|seat| sum += seat.bulk_in(medium, buffer)),
+        Input::Switch(position, unit) => {
+            seats.iter_mut().for_each(|seat| sum += seat.set_switch(*position, *unit))
+        }
     }
     sum
 }

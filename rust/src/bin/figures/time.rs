@@ -1,10 +1,11 @@
 //! Times: batches of prepared devices, timed as a whole, the two devices by turns.
 
-use crate::scene::{medium, ready, wrapper, Scene, BLOCKS, FIRST, LONG};
-use crate::side::{play, Idle, Side};
+use crate::scene::{medium, usual, waiting, wrapper, Scene, FIRST, LONG};
+use crate::side::{play, Idle, Seat, Side};
 use ordinary::device::{Device, BLOCK, PACKET};
 use ordinary::record::Record;
 use ordinary::scsi::code;
+use ordinary::wrapper::CBW_SIZE;
 use std::hint::black_box;
 use std::time::Instant;
 
@@ -23,23 +24,23 @@ fn quartiles(mut samples: Vec<f64>) -> Quartiles {
 
 /// A batch of devices, and the one that each of them is to be before it is timed.
 struct Batch<S> {
-    prepared: S,
-    devices: Vec<S>,
+    prepared: Seat<S>,
+    seats: Vec<Seat<S>>,
     samples: Vec<f64>,
 }
 
 impl<S: Side> Batch<S> {
     fn new(scene: &Scene) -> Batch<S> {
-        let prepared = S::new(&scene.before);
-        Batch { devices: vec![prepared.clone(); BATCH], prepared, samples: vec![] }
+        let prepared = Seat::new(&scene.before);
+        Batch { seats: vec![prepared.clone(); BATCH], prepared, samples: vec![] }
     }
 
     /// Times the batch as a whole, and notes the nanoseconds an event.
     fn round(&mut self, scene: &Scene, medium: &mut [u8]) {
-        self.devices.fill(self.prepared.clone());
+        self.seats.fill(self.prepared.clone());
         let mut buffer = [0; PACKET];
         let started = Instant::now();
-        let sum = play(&mut self.devices, &scene.input, medium, &mut buffer);
+        let sum = play(&mut self.seats, &scene.input, medium, &mut buffer);
         let time = started.elapsed().as_nanos() as f64;
         let events = BATCH * scene.input.events();
         assert!(sum as usize <= events, "{}: an event was refused", scene.name);
@@ -68,7 +69,7 @@ pub fn events(scene: &Scene) -> [Quartiles; 2] {
     [ordinary.samples, proved.samples].map(|samples| quartiles(samples).map(|time| time - nothing))
 }
 
-/// Nanoseconds an event, of the proved device, of one event over several media.
+/// Nanoseconds an event, of the proved device, of one event over units of several sizes.
 pub fn by_turns(scenes: &[&Scene]) -> Vec<Quartiles> {
     let mut idle = Batch::<Idle>::new(scenes[0]);
     let mut media: Vec<_> =
@@ -84,43 +85,45 @@ pub fn by_turns(scenes: &[&Scene]) -> Vec<Quartiles> {
     media.into_iter().map(|(_, _, proved)| less(proved.samples)).collect()
 }
 
-fn long_read<S: Side>(device: &mut S, medium: &mut [u8]) -> u32 {
+fn long_read<S: Side>(seat: &mut Seat<S>, medium: &mut [u8], wrapper: &[u8]) -> u32 {
     let mut buffer = [0; PACKET];
-    let mut sum = device.bulk_out(medium, &wrapper(code::READ, FIRST, LONG));
+    let mut sum = seat.bulk_out(medium, wrapper);
     for _ in 0..PACKETS + 1 {
-        sum += device.bulk_in(medium, black_box(&mut buffer));
+        sum += seat.bulk_in(medium, black_box(&mut buffer));
     }
     sum
 }
 
-fn long_write<S: Side>(device: &mut S, medium: &mut [u8]) -> u32 {
-    let mut sum = device.bulk_out(medium, &wrapper(code::WRITE, FIRST, LONG));
+fn long_write<S: Side>(seat: &mut Seat<S>, medium: &mut [u8], wrapper: &[u8]) -> u32 {
+    let mut sum = seat.bulk_out(medium, wrapper);
     for _ in 0..PACKETS {
-        sum += device.bulk_out(medium, black_box(&[0xA5; PACKET]));
+        sum += seat.bulk_out(medium, black_box(&[0xA5; PACKET]));
     }
-    sum + device.bulk_in(medium, &mut [0; PACKET])
+    sum + seat.bulk_in(medium, &mut [0; PACKET])
 }
 
-fn rate<S: Side>(device: &mut S, medium: &mut [u8], read: bool) -> f64 {
+fn rate<S: Side>(seat: &mut Seat<S>, medium: &mut [u8], wrapper: &[u8; CBW_SIZE]) -> f64 {
+    let read = wrapper[15] == code::READ;
     let started = Instant::now();
-    let sum = if read { long_read(device, medium) } else { long_write(device, medium) };
+    let sum = if read { long_read(seat, medium, wrapper) } else { long_write(seat, medium, wrapper) };
     let time = started.elapsed().as_secs_f64();
     let acks = if read { 1 } else { 1 + PACKETS };
     assert_eq!(sum as usize, acks, "a long transfer was not carried through");
     (PACKETS * PACKET) as f64 / time / 1e6
 }
 
-/// Megabytes a second over a whole read or write: wrapper, data, status.
-pub fn transfers(read: bool) -> [Quartiles; 2] {
-    let mut medium = medium(BLOCKS);
-    let mut device = ready(&medium);
-    let mut record = device.to_record();
+/// Megabytes a second over a whole read or write in the last of so many units: wrapper, data, status.
+pub fn transfers(operation: u8, count: usize) -> [Quartiles; 2] {
+    let units = usual(count);
+    let (mut medium, before) = (medium(&units), waiting(&units));
+    let wrapper = wrapper(&units, operation, FIRST, LONG);
+    let (mut ordinary, mut proved) = (Seat::<Device>::new(&before), Seat::<Record>::new(&before));
     let mut samples = [vec![], vec![]];
     for round in 0..LONG_ROUNDS {
         for side in [round % 2, 1 - round % 2] {
             samples[side].push(match side {
-                0 => rate(&mut device, &mut medium, read),
-                _ => rate(&mut record, &mut medium, read),
+                0 => rate(&mut ordinary, &mut medium, &wrapper),
+                _ => rate(&mut proved, &mut medium, &wrapper),
             });
         }
     }
