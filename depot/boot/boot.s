@@ -1,5 +1,8 @@
 # A boot block: the BIOS has read it from the collector's block 0. It reads blocks 1 to 3 through the BIOS, sends them in hex over
-# the first serial line, a block a line, and writes them to blocks 4093 to 4095. Then it says `end`.
+# the first serial line, a block a line, and writes them to blocks 4093 to 4095. So it does with each disk that the BIOS has found,
+# which are the collector's units (document 02, A7). Then it says `end`.
+
+        .set    disks, 0x475                    # where the BIOS keeps their number
 
         .code16
         .globl  start
@@ -13,7 +16,7 @@ start:  xorw    %ax, %ax
         movw    $booted, %si
         call    say
 
-        movb    $0x42, %ah                      # extended read
+each:   movb    $0x42, %ah                      # extended read
         movw    $reading, %si
         call    disk
         movw    $0x8000, %si
@@ -30,6 +33,11 @@ bytes:  lodsb
         movw    $0x4300, %ax                    # extended write, without verifying
         movw    $writing, %si
         call    disk
+        incb    drive
+        movb    drive, %al
+        subb    $0x80, %al
+        cmpb    disks, %al
+        jb      each
         movw    $ended, %si
         call    say
 stop:   hlt

@@ -1,6 +1,8 @@
-# The disk that the kernel makes of what was plugged in.
+# The disk that the kernel makes of what was plugged in, or the disks: one for each unit (document 02, A7).
 
-# plug MEDIUM NUMBER VENDOR PRODUCT RELEASE: plugs it in and waits for a disk; sets `disk` (sda) and `sg` (sg0).
+DISKS=1 # that are expected
+
+# plug MEDIUM NUMBER VENDOR PRODUCT RELEASE: plugs it in and waits for the disks; sets `disk` (sda) and `sg` (sg0), the first's.
 plug() {
     dmesg -c >/dev/null
     ask "plug $*"
@@ -14,11 +16,11 @@ plug() {
 
 appears() {
     waited=0
-    until dmesg | grep -q 'Attached SCSI removable disk'; do
+    until [ "$(dmesg | grep -c 'Attached SCSI removable disk')" -ge $DISKS ]; do
         sleep 0.1
         waited=$((waited + 1))
         if [ $waited -gt 150 ]; then
-            echo "no disk after 15 seconds"
+            echo "$(dmesg | grep -c 'Attached SCSI removable disk') of $DISKS disks after 15 seconds"
             return 1
         fi
     done
@@ -28,6 +30,11 @@ appears() {
     usb=$(readlink -f "/sys/block/$disk/device/../../../..")
     echo "$disk and $sg"
     [ -n "$disk" ] && [ -n "$sg" ] && [ -b "/dev/$disk" ]
+}
+
+# found_without_reset: the kernel asked for no unit that there is not: that would lock the device, and the kernel would reset the port.
+found_without_reset() {
+    same "resets of the port" "$(grep -c 'reset full-speed USB device' /tmp/kernel)" 0
 }
 
 # unplug: and waits until the kernel has let the disk go.

@@ -1,10 +1,10 @@
 # The write switch (document 02, A4): what Linux makes of a collector whose switch is closed, before it is plugged in and after.
 
-# turn POSITION [after PACKETS]: turns the switch of the collector that is plugged in, or of the next one before that is; with PACKETS
-# once the device has taken so many more packets.
+# turn POSITION UNIT [after PACKETS]: turns the unit's switch, of the collector that is plugged in, or of the next one before that is; with
+# PACKETS once the device has taken so many more packets.
 turn() {
     ask "switch $*"
-    mark "the switch: $*${3:+ packets}"
+    mark "the switch of unit $2: $1${4:+ after $4 packets}"
 }
 
 # look_again: Linux reads Mode Sense when it finds a disk, and when it is told to look at it again.
@@ -103,14 +103,14 @@ closed_resets() {
 # The switch is opened: the next command finds it so, and Linux once it looks. Then it is closed again in the middle of a Write: this
 # one arrives whole, the next fails.
 opened() {
-    turn open
+    turn open 0
     check opened-write passed raw -s 512 -i /depot/sealed.data -- 2A 00 00 00 01 90 00 00 01 00
     look_again
     check opened-write-protect printed "[$disk] Write Protect is off"
     check opened-ro read_only 0
     check opened-mode-sense octets "03 00 00 00" raw -r 4 -- 1A 00 3F 00 04 00
     check opened-disk-write disk_write
-    turn closed after 100
+    turn closed 0 after 100
     check closed-in-write passed raw -s 16384 -i /depot/sealed.data -- 2A 00 00 00 01 B8 00 00 20 00
     check closed-in-write-stored received 16384 /depot/sealed.data raw -r 16384 -- 28 00 00 00 01 B8 00 00 20 00
     check closed-after-write protected raw -s 512 -i /depot/sealed.data -- 2A 00 00 00 01 B8 00 00 01 00
@@ -129,14 +129,14 @@ sealed() {
     check sealed-unmount umount /mnt
     check sealed-kept dd if="/dev/$disk" of=/depot/sealed.formatted bs=4k
     ask "save sealed"
-    turn closed
+    turn closed 0
     check closed-next-write protected raw -s 512 -i /depot/sealed.data -- 2A 00 00 00 00 00 00 00 01 00
     look_again
     closed_disk closed
     closed_commands
     closed_resets
     unplug
-    turn closed
+    turn closed 0
     plug same 24 1209 0001 0100 || return
     check sealed-clerk-again clerk_knows sealed
     closed_disk plugged-in-closed

@@ -4,11 +4,13 @@ import os
 from . import blocks, log, script_form
 from .rules import Collector
 
-LONGEST, MOST_EVENTS, MEDIUM, NUMBERS = 16384, 1024, blocks.Blocks(64), (42, 0, 0, 0)
+LONGEST, MOST_EVENTS = 16384, 1024
+NUMBERS, SIZES = (42, 0, 0, 0), [64]
+MEDIUM = blocks.Blocks(sum(SIZES))
 
 
 def bench_events(path):
-    """The events of the first device that is the bench's: number 42, other numbers 0, 64 zero blocks."""
+    """The events of the first device that is the bench's: number 42, other numbers 0, one unit of 64 zero blocks."""
     events, taking, zero = [], False, False
     for entry in log.read(path):
         if isinstance(entry, log.Event):
@@ -17,7 +19,7 @@ def bench_events(path):
         elif entry.words[0] == "loaded":
             zero = blocks.read(os.path.join(os.path.dirname(path), entry.words[1])) == MEDIUM
         elif entry.words[0] == "plugged":
-            taking = zero and log.identity(entry) == NUMBERS
+            taking = zero and log.identity(entry) == NUMBERS and log.sizes(entry) == SIZES
         elif entry.words[0] == "unplugged" and taking:
             break
     return events
@@ -25,7 +27,7 @@ def bench_events(path):
 
 def cut(events):
     """As many events as fit, whole commands only, with the answers of document 01."""
-    device, size, answers, whole = Collector(*NUMBERS, MEDIUM), 2, [], 0
+    device, size, answers, whole = Collector(*NUMBERS, MEDIUM, SIZES), 2, [], 0
     for event in events[:MOST_EVENTS]:
         size += 4 + len(event.body)
         if size > LONGEST:

@@ -3,6 +3,7 @@ import struct
 
 from . import log
 from .decode import COMMANDS, is_cbw, is_csw
+from .districts import SIZES
 from .media import LARGEST
 from .replies import product_pages
 from .rules import allocation_length, control_byte, out_of_range, page_code
@@ -11,24 +12,30 @@ from .rules import allocation_length, control_byte, out_of_range, page_code
 # "control bytes" are wrappers whose control byte is not 0: Linux handed the bits on as sg_raw was given them. In the same way
 # "lengths with byte 3" are wrappers of codes 03, 12 and 1A whose byte 3 is not 0, and "reads past 65,535" and the writes are
 # wrappers in range whose last block is at 65,536 or behind it. "refused at" are wrappers out of range, with the block that their sense
-# must name (document 02, A8); "senses with a block" are replies that name one. "turned in a Write" are turns of the switch (document 02,
-# A4) between two packets of data, "senses of the switch" replies with 07/27/00.
-LEAST = {"devices": 8, "bus resets": 13, "failed": 38, "phase errors": 3, "stalls": 55, "control bytes": 7,
-         "lengths with byte 3": 7, "reads past 65,535": 17, "writes past 65,535": 5,
-         "page 00 whole": 6, "page 80 whole": 6, "page 83 whole": 6, "page 00 cut": 4, "page 80 cut": 4, "page 83 cut": 4,
+# must name (document 02, A8); "senses with a block" are replies that name one. "turned in a Write" are turns of a switch (document 02,
+# A4) between two packets of data, "senses of the switch" replies with 07/27/00. "commands for unit 1" and so on are wrappers that name it,
+# "beyond the table" those that name a unit that there is not, "highest unit 3" the answers to Get Max LUN (document 02, A7).
+LEAST = {"devices": 11, "bus resets": 20, "failed": 60, "phase errors": 4, "stalls": 74, "control bytes": 7,
+         "lengths with byte 3": 7, "reads past 65,535": 25, "writes past 65,535": 9,
+         "page 00 whole": 10, "page 80 whole": 10, "page 83 whole": 6, "page 00 cut": 4, "page 80 cut": 4, "page 83 cut": 4,
          "page 80 of 0 bytes": 1, "refused pages": 1, "refused pages of 0 bytes": 1,
-         "closed": 3, "opened": 1, "turned in a Write": 1, "senses of the switch": 9, "Mode Senses with 80": 5, "Write refused at 512": 1,
+         "closed": 6, "opened": 3, "turned in a Write": 1, "senses of the switch": 11, "Mode Senses with 80": 8, "Write refused at 512": 1,
          "Read refused at 64": 2, "Write refused at 64": 1, "Verify refused at 64": 1, "Read refused at 65": 1,
-         "Read refused at 1048576": 2, "Write refused at 1048576": 1, "Verify refused at 1048577": 1,
+         "Read refused at 1048576": 6, "Write refused at 1048576": 1, "Verify refused at 1048577": 1,
          "Read refused at 4294967280": 1, "Read refused at 4294967295": 1, "Verify refused at 4294967295": 1,
-         "senses with a block": 13, "failures' senses without": 10}
-LEAST_WITH_PROBE = {"failed": 353, "phase errors": 8, "lengths with byte 3": 9, "naks": 3, "taken back": 2, "mass storage resets": 16,
-                    "closed": 10, "opened": 8, "turned in a Write": 2, "senses of the switch": 18, "Mode Senses with 80": 13,
+         "senses with a block": 33, "failures' senses without": 10,
+         "highest unit 3": 3, "commands for unit 1": 100, "commands for unit 2": 100, "commands for unit 3": 100, "turned, of units 1 to 3": 5}
+LEAST_WITH_PROBE = {"failed": 412, "phase errors": 10, "lengths with byte 3": 9, "naks": 3, "taken back": 2, "mass storage resets": 38,
+                    "closed": 21, "opened": 18, "turned in a Write": 6, "senses of the switch": 24, "Mode Senses with 80": 20,
                     "page 00 of 0 bytes": 1, "page 80 of 0 bytes": 2, "page 83 of 0 bytes": 2, "refused pages of 0 bytes": 254,
                     "Read refused at 128": 41, "Write refused at 128": 2, "Verify refused at 128": 2, "Read refused at 129": 1,
                     "Read refused at 16909060": 1, "Write refused at 4294967169": 1,
                     "Read refused at 4294967295": 2, "Verify refused at 4294967295": 2,
-                    "senses with a block": 31, "cut senses with a block": 17, "failures' senses without": 13}
+                    "senses with a block": 58, "cut senses with a block": 17, "failures' senses without": 14,
+                    "highest unit 3": 5, "turned, of units 1 to 3": 17, "beyond the table": 19}
+for blocks in SIZES:  # each unit's own end
+    LEAST.update({"Read refused at %d" % blocks: 2, "Write refused at %d" % blocks: 1, "Verify refused at %d" % blocks: 1})
+    LEAST_WITH_PROBE["Read refused at %d" % blocks] = 10
 PAGE_SIZES = {code: len(page) for code, page in product_pages(0).items()}  # every number's are as long
 
 
@@ -71,30 +78,38 @@ def turns_in_writes(entries):
 
 def count(entries):
     entries = list(entries)
-    seen, blocks, block = dict.fromkeys([*LEAST, *LEAST_WITH_PROBE], 0), 0, b""
+    seen, sizes, block = dict.fromkeys([*LEAST, *LEAST_WITH_PROBE], 0), [], b""
     seen["turned in a Write"] = turns_in_writes(entries)
     for entry in entries:
         if isinstance(entry, log.Note):
             seen["devices"] += entry.words[0] == "plugged"
-            blocks = log.blocks(entry) if entry.words[0] == "plugged" else blocks
+            sizes = log.sizes(entry) if entry.words[0] == "plugged" else sizes
             seen["taken back"] += entry.words[0] == "cancelled"
             continue
         seen["bus resets"] += entry.kind == 1
-        seen["closed"] += entry.kind == 5 and entry.body == b"\x01"
-        seen["opened"] += entry.kind == 5 and entry.body == b"\x00"
+        if entry.kind == 5:
+            position, unit = log.turned(entry.body)
+            seen["closed"] += position == "closed"
+            seen["opened"] += position == "open"
+            seen["turned, of units 1 to 3"] += unit > 0
         seen["mass storage resets"] += entry.kind == 2 and entry.body[:2] == b"\x21\xFF"
+        seen["highest unit 3"] += entry.kind == 2 and entry.body[:2] == b"\xA1\xFE" and entry.data == b"\x03"
         seen["stalls"] += entry.word == "stall"
         seen["naks"] += entry.word == "nak"
-        if entry.kind == 3 and is_cbw(entry.body):
-            block = entry.body[15:]
+        if entry.kind == 3 and is_cbw(entry.body) and entry.body[13] >= len(sizes):
+            seen["beyond the table"] += 1
+        elif entry.kind == 3 and is_cbw(entry.body):
+            unit, block = entry.body[13], entry.body[15:]
+            if unit:
+                seen["commands for unit %d" % unit] += 1
             seen["control bytes"] += control_byte(block) != 0
             if page_kind(block):
                 seen[page_kind(block)] += 1
             seen["lengths with byte 3"] += block[0] in (0x03, 0x12, 0x1A) and block[3] != 0
             seen["reads past 65,535"] += block[0] == 0x28 and is_far(block)
             seen["writes past 65,535"] += block[0] == 0x2A and is_far(block)
-            if refusal(block, blocks) in seen:
-                seen[refusal(block, blocks)] += 1
+            if refusal(block, sizes[unit]) in seen:
+                seen[refusal(block, sizes[unit])] += 1
         if entry.kind == 4 and is_csw(entry.data):
             seen["failed"] += entry.data[12] == 1
             seen["phase errors"] += entry.data[12] == 2

@@ -53,9 +53,9 @@ def is_csw(data):
 
 
 def cbw(packet):
-    tag, length, flags = struct.unpack_from("<IIB", packet, 4)
+    tag, length, flags, unit = struct.unpack_from("<IIBB", packet, 4)
     announced = "no data" if not length else "%d bytes %s" % (length, "in" if flags & 0x80 else "out")
-    return "CBW %X: %s, %s" % (tag, command(packet[15:]), announced)
+    return "CBW %X%s: %s, %s" % (tag, " for unit %d" % unit if unit else "", command(packet[15:]), announced)
 
 
 def csw(data):
@@ -115,7 +115,7 @@ def lines(entries):
             if is_cbw(entry.body):
                 sent, block = cbw(entry.body), entry.body[15:]
         else:
-            sent = "ask" if entry.kind == 4 else "(the switch: %s)" % log.position(entry.body)
+            sent = "ask" if entry.kind == 4 else "(the switch: %s, of unit %d)" % log.turned(entry.body)
         if entry.word == "data":
             answer = csw(entry.data) if entry.kind == 4 and is_csw(entry.data) else reply(entry, block)
         rows.append((entry.time, sent, answer))

@@ -19,7 +19,7 @@ def differences(folder):
         elif entry.words[0] == "loaded":
             medium = contents(entry.words[1])
         elif entry.words[0] == "plugged":
-            device = Collector(*log.identity(entry), medium)
+            device = Collector(*log.identity(entry), medium, log.sizes(entry))
         elif entry.words[0] == "unplugged":
             medium, device = device.medium, None
         elif entry.words[0] == "saved" and contents(entry.words[1]) != (device.medium if device else medium):

@@ -2,7 +2,7 @@
 from collections import namedtuple
 
 KINDS = {"reset": 1, "setup": 2, "out": 3, "in": 4, "switch": 5}
-POSITIONS = {"open": b"\x00", "closed": b"\x01"}  # of the switch (document 02, A4), in words as in the recordings' text form
+POSITIONS = ["open", "closed"]  # of a switch (document 02, A4), by number
 
 # kind and body as in a recording; word is the answer's (ack, nak, stall, silent, data, refused), data its bytes.
 Event = namedtuple("Event", "time kind body word data")
@@ -14,9 +14,16 @@ def octets(words):
     return b"" if words == ["none"] else bytes.fromhex("".join(words))
 
 
-def position(body):
-    """The word for a switch event's body."""
-    return next(word for word, octet in POSITIONS.items() if octet == body)
+def turn(words):
+    """A switch event's body, from its position and its unit (document 02, A7) in words."""
+    position, unit = words
+    return bytes([POSITIONS.index(position), int(unit)])
+
+
+def turned(body):
+    """A switch event's position, as a word, and its unit."""
+    position, unit = body
+    return POSITIONS[position], unit
 
 
 def read(path):
@@ -28,13 +35,13 @@ def read(path):
                 continue
             event, _, answer = rest.partition(" -> ")
             (name, *body), (word, *data) = event.split(" "), answer.split(" ")
-            body = POSITIONS[body[0]] if name == "switch" else octets(body)
+            body = turn(body) if name == "switch" else octets(body)
             yield Event(float(time), KINDS[name], body, word, octets(data) if word == "data" else b"")
 
 
-def blocks(note):
-    """The number of blocks of a `plugged` note."""
-    return int(dict(word.split("=") for word in note.words[1:])["blocks"])
+def sizes(note):
+    """The units' numbers of blocks, of a `plugged` note."""
+    return [int(blocks) for blocks in dict(word.split("=") for word in note.words[1:])["units"].split(",")]
 
 
 def identity(note):

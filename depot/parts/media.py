@@ -1,7 +1,9 @@
 """The media that are plugged in, and what the guest is to write on them: random, so that no device can guess it."""
+import itertools
 import random
 
 from .blocks import BLOCK, Blocks
+from .districts import Districts
 
 LARGEST = 1048576  # document 02, A5
 
@@ -12,10 +14,11 @@ def lines(places):
 
 
 class Medium:
-    """A medium before and after the guest's writes; `writes` are its (block, count) in order, `data` their bytes, `spare` blocks more."""
+    """A medium of one unit, before and after the guest's writes; `writes` are its (block, count) in order, `data` their bytes, `spare`
+    blocks more."""
 
     def __init__(self, chance, before, writes, spare=0):
-        self.before, self.writes = before, writes
+        self.before, self.writes, self.sizes = before, writes, [before.count]
         self.data = chance.randbytes(BLOCK * (sum(count for _, count in writes) + spare))
         self.after, at = before.copy(), 0
         for block, count in writes:
@@ -54,7 +57,7 @@ class SealedMedium:
     """
 
     def __init__(self, chance, count, writes):
-        self.before, self.writes = Blocks(count), writes
+        self.before, self.writes, self.sizes = Blocks(count), writes, [count]
         self.data = chance.randbytes(BLOCK * max(count for _, count in writes))
 
     def files(self, name):
@@ -66,6 +69,29 @@ class SealedMedium:
         for block, count in self.writes:
             after.put(block, self.data[:count * BLOCK])
         return after
+
+
+class LargestUnits:
+    """Four units of the largest size (document 02, A7), zeros but for their ends, which are random. The guest writes the last block of each."""
+
+    def __init__(self, chance):
+        self.sizes, self.ends = [LARGEST] * 4, [(0, 2), (LARGEST - 2, 2)]
+        self.before = Blocks(sum(self.sizes))
+        for unit, (block, count) in itertools.product(range(4), self.ends):
+            self.before.put(unit * LARGEST + block, chance.randbytes(count * BLOCK))
+        self.after, self.data = self.before.copy(), [chance.randbytes(BLOCK) for _ in self.sizes]
+        for unit, data in enumerate(self.data):
+            self.after.put((unit + 1) * LARGEST - 1, data)
+
+    def files(self, name):
+        out = []
+        for unit, data in enumerate(self.data):
+            contents = lambda medium: b"".join(medium.get(unit * LARGEST + block, count) for block, count in self.ends)
+            out += [("%s-%d.%s" % (name, unit, kind), body) for kind, body in (
+                ("data", data), ("list", lines([(LARGEST - 1, 1)])))]
+            out += [("%s-%d-ends.%s" % (name, unit, kind), body) for kind, body in (
+                ("list", lines(self.ends)), ("before", contents(self.before)), ("after", contents(self.after)))]
+        return out
 
 
 def largest(chance):
@@ -89,16 +115,18 @@ def media(seed):
         "large": Medium(chance, filled(4096), [(0, 1), *((block, 1) for block in some(4000, 6)), (4032, 64)]),
         # As guest/switch.sh writes: one command, the disk's last 4,096 bytes, and the Write in whose middle the switch is closed.
         "sealed": SealedMedium(chance, 512, [(400, 1), (504, 8), (440, 32)]),
-        # The last one, so that the others' blocks do not depend on how many random ones it takes.
+        # Behind the others, so that their blocks do not depend on how many random ones these take.
         "largest": largest(chance),
+        "quarters": LargestUnits(chance),
+        "districts": Districts(chance, [meter_csv(seed, 43 + district) for district in range(4)], meter_csv(seed)),
     }
 
 
-def meter_csv(seed):
+def meter_csv(seed, meter=42):
     """A meter's export: what a clerk copies."""
-    chance = random.Random(seed + 1)
+    chance = random.Random(seed + meter - 41)
     rows, reading = ["meter;date;kWh"], 48211.0
     for day in range(1, 366):
         reading += chance.uniform(4, 19)
-        rows.append("000000000042;day %03d;%.3f" % (day, reading))
+        rows.append("%012d;day %03d;%.3f" % (meter, day, reading))
     return "\r\n".join(rows + [""]).encode("ascii")

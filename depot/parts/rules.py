@@ -1,8 +1,8 @@
-"""Document 01, with document 02's landed requests (A1, A2, A4, A5, A8, A12), once more, in Python and from the papers alone: what a
+"""Document 01, with document 02's landed requests (A1, A2, A4, A5, A7, A8, A12), once more, in Python and from the papers alone: what a
 collector answers to each event, and what its medium then is.
 
 A run's log is held to it event by event, so that what the guest does not notice (a residue, a halt, an answer to a request
-that Linux ignores) is looked at too. Only what a bus and a hand at the switch can bring is here: the refusals 10 to 17 are not.
+that Linux ignores) is looked at too. Only what a bus and a hand at the switches can bring is here: the refusals 10 to 18 are not.
 """
 import struct
 
@@ -38,17 +38,31 @@ def out_of_range(address, blocks):
     return 5, 0x21, 0, max(address, blocks)
 
 
-class Collector:
-    """`due` is what the bulk pipes wait for: "wrapper", "out", "in" or "status". The medium given (Blocks) is copied."""
+class Unit:
+    """A logical unit (document 02, A7): its part of the medium, by its first block there and its size; its own sense and switch."""
 
-    def __init__(self, number, vendor, product, release, medium):
-        self.medium = medium.copy()
+    def __init__(self, first, blocks):
+        self.first, self.blocks, self.sense, self.closed = first, blocks, NO_SENSE, False
+
+
+def table(sizes):
+    """Units of these sizes, the part of each behind the one before it."""
+    return [Unit(sum(sizes[:number]), blocks) for number, blocks in enumerate(sizes)]
+
+
+class Collector:
+    """`due` is what the bulk pipes wait for: "wrapper", "out", "in" or "status"; `unit` is that of the command in hand.
+
+    `sizes` are the units' numbers of blocks. The medium given (Blocks) is copied.
+    """
+
+    def __init__(self, number, vendor, product, release, medium, sizes):
+        self.medium, self.units = medium.copy(), table(sizes)
         self.descriptors = {
             (0x0100, 0): device_descriptor(vendor, product, release), (0x0200, 0): CONFIGURATION, (0x0300, 0): LANGUAGES,
             (0x0301, 0x0409): utf16("COLLECT"), (0x0302, 0x0409): utf16("METER EXPORT"), (0x0303, 0x0409): utf16(serial(number)),
         }
         self.pages = product_pages(number)
-        self.closed = False  # the switch, which no reset moves
         self.bus_reset()
 
     def event(self, kind, body):
@@ -64,9 +78,11 @@ class Collector:
                 return self.bulk_in()
         return self.turn(body)
 
-    def turn(self, position):
-        """The switch (document 02, A4). A command under way keeps what it found at its wrapper: a Write's place, Mode Sense's reply."""
-        self.closed = position == b"\x01"
+    def turn(self, body):
+        """A switch (document 02, A4): its position, and its unit (A7). A command under way keeps what it found at its wrapper: a Write's
+        place, Mode Sense's reply. No reset moves a switch."""
+        position, unit = body
+        self.units[unit].closed = position == 1
         return "ack", b""
 
     # Control
@@ -78,7 +94,10 @@ class Collector:
         return "ack", b""
 
     def drop(self):
-        self.due, self.locked, self.part, self.sense = "wrapper", False, b"", NO_SENSE
+        """The command is dropped, and the senses of all units with it (document 02, A7)."""
+        self.due, self.locked, self.part = "wrapper", False, b""
+        for unit in self.units:
+            unit.sense = NO_SENSE
 
     def control(self, setup):
         kind, request, value, index, length = struct.unpack("<BBHHH", setup)
@@ -112,7 +131,7 @@ class Collector:
                 self.drop()
                 return ack
             case (0xA1, 0xFE, 0, 0, 1) if configured:
-                return data(0)
+                return data(len(self.units) - 1)
             case (0x80, 0x06, _, _, _) if (value, index) in self.descriptors:
                 return "data", self.descriptors[value, index][:length]
         return "stall", b""
@@ -156,23 +175,24 @@ class Collector:
     def lock(self):
         self.locked, self.halted = True, {0x81: True, 0x02: True}
 
-    @staticmethod
-    def accepts(packet):
+    def accepts(self, packet):
+        """A unit beyond the table is not accepted; with bits 4 to 7 of its byte set the wrapper is not even readable."""
         if len(packet) != 31 or packet[:4] != b"USBC":
             return False
         flags, unit, length = packet[12:15]
-        return not flags & 0x7F and unit == 0 and 1 <= length <= 16 and length >= BLOCK_LENGTHS.get(packet[15], 1)
+        return not flags & 0x7F and unit < len(self.units) and 1 <= length <= 16 and length >= BLOCK_LENGTHS.get(packet[15], 1)
 
     def begin(self, packet):
         """The thirteen meetings. `way` is the host's direction, "" where it announces nothing."""
-        self.tag, self.announced, flags = struct.unpack_from("<IIB", packet, 4)
+        self.tag, self.announced, flags, unit = struct.unpack_from("<IIBB", packet, 4)
+        self.unit = self.units[unit]
         self.way = "" if self.announced == 0 else "in" if flags & 0x80 else "out"
         self.residue = self.announced
         sense, way, length, source = self.decide(packet[15:])
         if way and (way != self.way or length > self.announced):
             self.finish(PHASE_ERROR)
             return
-        self.sense = sense
+        self.unit.sense = sense
         if not way:
             self.finish(PASSED if sense == NO_SENSE else FAILED)
         elif way == "in":
@@ -188,13 +208,13 @@ class Collector:
 
     def take(self, packet):
         if len(packet) != PACKET:
-            self.part, self.sense = b"", PHASE_SENSE
+            self.part, self.unit.sense = b"", PHASE_SENSE
             self.halted[0x02] = True
             self.due, self.status = "status", PHASE_ERROR
             return
         self.part += packet
         if len(self.part) == BLOCK:
-            self.medium.put(self.place, self.part)
+            self.medium.put(self.unit.first + self.place, self.part)
             self.place, self.left, self.residue, self.part = self.place + 1, self.left - BLOCK, self.residue - BLOCK, b""
             if not self.left:
                 self.finish(PASSED)
@@ -209,8 +229,9 @@ class Collector:
         return INQUIRY if block[2] == 0 else None
 
     def decide(self, block):
-        """The sense that a command block leaves, the direction of its data ("" for none), their length, and their bytes or first block."""
-        code, none = block[0], ("", 0, None)
+        """The sense that a command block leaves in its unit, the direction of its data ("" for none), their length, and their bytes or
+        the first block, of the unit, that they go to."""
+        code, none, unit = block[0], ("", 0, None), self.unit
         address, count = struct.unpack_from(">IxH", block, 2)
         given = lambda good, data: (NO_SENSE, *data) if good else (INVALID_FIELD, *none)
         sent = lambda reply: ("in", len(reply), reply) if reply else none
@@ -221,24 +242,24 @@ class Collector:
             case 0x00:
                 return given(True, none)
             case 0x03:
-                return given(not block[1] & 1, cut(fixed_sense(*self.sense)))
+                return given(not block[1] & 1, cut(fixed_sense(*unit.sense)))
             case 0x12:
                 reply = self.inquiry(block)
                 return given(reply is not None, cut(reply or b""))
             case 0x1A:
-                return given(block[2] == 0x3F, cut(mode_sense(self.closed)))
+                return given(block[2] == 0x3F, cut(mode_sense(unit.closed)))
             case 0x1E:
                 return given(not block[4] & 1, none)
             case 0x25:
-                return given(True, sent(capacity(self.medium.count)))
+                return given(True, sent(capacity(unit.blocks)))
             case 0x28 | 0x2A | 0x2F:
                 if block[1] & (0xE2 if code == 0x2F else 0xE0):
                     return INVALID_FIELD, *none
-                if address + count > self.medium.count:
-                    return out_of_range(address, self.medium.count), *none
-                if code == 0x2A and self.closed:
+                if address + count > unit.blocks:
+                    return out_of_range(address, unit.blocks), *none
+                if code == 0x2A and unit.closed:
                     return WRITE_PROTECTED, *none
                 if code == 0x2F or not count:
                     return NO_SENSE, *none
-                return NO_SENSE, *(sent(self.medium.get(address, count)) if code == 0x28 else ("out", count * BLOCK, address))
+                return NO_SENSE, *(sent(self.medium.get(unit.first + address, count)) if code == 0x28 else ("out", count * BLOCK, address))
         return INVALID_CODE, *none

@@ -1,9 +1,9 @@
 """One run: the guest asks, the peer plugs, and the media are looked at from outside."""
 import os
 import queue
-import re
 
 from . import blocks, initramfs, packages
+from .files import has_file
 from .machine import Machine, SOCKET, linux
 from .media import media, meter_csv
 from .peer import Peer, Refused
@@ -19,6 +19,7 @@ class Scene:
     def __init__(self, folder, seed, results, peer, probe):
         self.folder, self.results, self.peer, self.probe = folder, results, peer, probe
         self.media, self.csv = media(seed), meter_csv(seed)
+        self.loaded = None  # the name of the medium that was plugged in last
 
     def path(self, name):
         return os.path.join(self.folder, name)
@@ -77,7 +78,8 @@ class Scene:
         if words[0] == "plug":
             if words[1] != "same":
                 peer.order("load %s.medium" % words[1])
-            peer.order("plug " + " ".join(words[2:]))
+                self.loaded = words[1]
+            peer.order("plug %s %s" % (" ".join(words[2:]), " ".join(map(str, self.media[self.loaded].sizes))))
         elif words[0] in ("unplug", "switch"):
             peer.order(" ".join(words))
         elif words[0] == "save":
@@ -88,7 +90,10 @@ class Scene:
         """The peer's medium, which the guest cannot see, is compared with what the run's own numbers make it."""
         saved = blocks.read(self.path(name + ".saved"))
         if name in ("file-system", "sealed"):
-            self.look_for_csv(name, saved)
+            good = has_file(saved, "METER", self.csv)
+            self.results.check(name + "-csv-outside", good, "directory entry and %d bytes of the CSV on the medium" % len(self.csv))
+        elif name.startswith("districts-"):
+            self.look_at_districts(name, saved)
         elif name.startswith("sealed-"):
             formatted = blocks.read(self.path("sealed.saved"))
             self.compare(name, formatted, self.media["sealed"].written(formatted) if name == "sealed-opened" else formatted, saved)
@@ -100,9 +105,16 @@ class Scene:
         detail = "changed: " + (" ".join(map(str, changed[:8])) + (" and %d more" % (len(changed) - 8) if len(changed) > 8 else "") or "none")
         self.results.check(name + "-outside", saved == expected, detail)
 
-    def look_for_csv(self, name, saved):
-        """A directory entry has the name in its first 11 bytes and the size in its last 4. No block of the CSV is zero: it is in one run."""
-        entry = re.compile(b"METER   CSV.{17}" + re.escape(len(self.csv).to_bytes(4, "little")), re.DOTALL)
-        runs = saved.runs()
-        good = any(entry.search(run) for run in runs) and any(self.csv in run for run in runs)
-        self.results.check(name + "-csv-outside", good, "directory entry and %d bytes of the CSV on the medium" % len(self.csv))
+    def look_at_districts(self, name, saved):
+        """Every unit's part of the medium (document 02, A7)."""
+        districts, state = self.media["districts"], name.removeprefix("districts-")
+        written = districts.written_by(state)
+        if written:
+            self.compare(name, *written, saved)
+            return
+        sealed = 1 if state == "sealed" else None
+        wrong = districts.exports(saved, sealed)
+        self.results.check(name + "-outside", not wrong, "; ".join(wrong) or "each unit has its own district's CSV and no other's")
+        if sealed is not None:
+            copied = districts.part(blocks.read(self.path("districts-csv.saved")), sealed)
+            self.compare("unit-%d-sealed" % sealed, copied, copied, districts.part(saved, sealed))

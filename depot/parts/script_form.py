@@ -53,13 +53,19 @@ def cbw(body):
     return "%s %s" % (named, name), "%s block %s" % (head, octets(body[15:15 + size])), "%s size=%d %s" % (head, size, plain)
 
 
+def switch(body):
+    position, unit = log.turned(body)
+    return "switch " + position, "switch %s %d" % (position, unit)
+
+
 def event(entry):
     """The shortest form that reads back to the event."""
     if entry.kind in (1, 4):
         return "reset" if entry.kind == 1 else "in"
     if entry.kind == 5:
-        return "switch " + log.position(entry.body)
-    forms = [form for form in (setup(entry.body) if entry.kind == 2 else cbw(entry.body) if is_cbw(entry.body) else ()) if form]
+        forms = switch(entry.body)
+    else:
+        forms = [form for form in (setup(entry.body) if entry.kind == 2 else cbw(entry.body) if is_cbw(entry.body) else ()) if form]
     for form in [*forms, "out " + octets(entry.body)]:
         try:
             if script.event(form.split()) == (entry.kind, entry.body):

@@ -10,11 +10,11 @@ LEGEND = "Width of the bars on the left: the root of the number of 64-byte packe
 
 
 def plugs(entries):
-    """(from, to, number of blocks) of each device."""
+    """(from, to, sizes of the units) of each device."""
     out = []
     for entry in entries:
         if isinstance(entry, log.Note) and entry.words[0] == "plugged":
-            out.append([entry.time, entry.time, log.blocks(entry)])
+            out.append([entry.time, entry.time, log.sizes(entry)])
         elif isinstance(entry, log.Note) and entry.words[0] == "unplugged":
             out[-1][1] = entry.time
     return out
@@ -46,9 +46,9 @@ def draw_packets(page, at, bins):
 
 
 def draw_plugs(page, at, devices):
-    for index, (start, stop, blocks) in enumerate(devices):
+    for index, (start, stop, sizes) in enumerate(devices):
         page.box(PLUG, at(start), WIDTH, at(stop) - at(start) - 2, COLORS[index % len(COLORS)], 4)
-        words = "{:,} block{}".format(blocks, "" if blocks == 1 else "s")
+        words = "%d units" % len(sizes) if len(sizes) > 1 else "{:,} block{}".format(sizes[0], "" if sizes[0] == 1 else "s")
         page.text(PLUG + WIDTH / 2, (at(start) + at(stop)) / 2 + 4, words, "white", 13, "middle")
 
 

@@ -7,7 +7,6 @@ from .places import DEPOT
 from .rules import Collector
 
 RECORDINGS = os.path.join(os.path.dirname(DEPOT), "recordings")
-COUNTS = {"sheet.txt": 128}  # of blocks; the others: the bench's 64
 RECORDED = {"linux.txt"}  # a run of the depot, whose answers are those of parts/rules.py itself
 
 
@@ -18,8 +17,10 @@ def differences():
         if not name.endswith(".txt") or name in RECORDED:
             continue
         with open(os.path.join(RECORDINGS, name), encoding="utf-8") as f:
-            events, answers = script_form.script.read(f.read())
-        device = Collector(42, 0, 0, 0, Blocks(COUNTS.get(name, 64)))
+            text = f.read()
+        events, answers = script_form.script.read(text)
+        sizes = script_form.script.units(text)
+        device = Collector(42, 0, 0, 0, Blocks(sum(sizes)), sizes)
         given = script_form.answers([device.event(kind, body) for kind, body in events])
         count += len(events)
         wrong += ["%s, event %d: %s, not %s" % (name, i, got, answer) for i, (got, answer) in enumerate(zip(given, answers), 1) if got != answer]

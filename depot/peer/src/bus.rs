@@ -3,7 +3,7 @@
 use crate::collector::{Answer, Collector, Event, PACKET};
 use crate::log::{answer_text, Log};
 use crate::redir::{Bulk, Control, Status};
-use crate::switch::Position;
+use crate::switch::Turn;
 use std::collections::VecDeque;
 
 /// A bulk transfer under way. `done` counts the bytes that went; `data` holds them where they came in.
@@ -24,8 +24,8 @@ pub struct Bus {
     device: Collector,
     inward: VecDeque<Transfer>,
     outward: VecDeque<Transfer>,
-    /// Where the switch is to go, and how many more packets outward come first.
-    turn: Option<(Position, usize)>,
+    /// A turn that is to come, and how many more packets outward come first.
+    turn: Option<(Turn, usize)>,
     /// The first refusal, if the device ever gave one: its number and count.
     pub refused: Option<(u32, usize)>,
 }
@@ -53,26 +53,26 @@ impl Bus {
         answer
     }
 
-    /// Turns the switch, which nothing on the bus can do.
-    pub fn switch(&mut self, position: Position, log: &mut Log) -> Result<(), String> {
-        match self.put(Event::Switch(position), log) {
+    /// Turns a switch, which nothing on the bus can do.
+    pub fn switch(&mut self, turn: Turn, log: &mut Log) -> Result<(), String> {
+        match self.put(Event::Switch(turn), log) {
             Answer::Ack => Ok(()),
             answer => Err(format!("turning was answered: {}", answer_text(&answer))),
         }
     }
 
-    /// Turns the switch once the device has taken so many more packets outward: in the middle of a Write, if it is one.
-    pub fn switch_after(&mut self, position: Position, packets: usize) {
-        self.turn = Some((position, packets));
+    /// Turns a switch once the device has taken so many more packets outward: in the middle of a Write, if it is one.
+    pub fn switch_after(&mut self, turn: Turn, packets: usize) {
+        self.turn = Some((turn, packets));
     }
 
     /// The device has taken a packet outward.
     fn count(&mut self, log: &mut Log) {
         match self.turn.take() {
-            Some((position, 1)) => {
-                self.put(Event::Switch(position), log);
+            Some((turn, 1)) => {
+                self.put(Event::Switch(turn), log);
             }
-            turn => self.turn = turn.map(|(position, packets)| (position, packets - 1)),
+            later => self.turn = later.map(|(turn, packets)| (turn, packets - 1)),
         }
     }
 

@@ -1,12 +1,13 @@
-//! The collector's C interface: one device over one medium, the four events of its bus, and its switch.
+//! The collector's C interface: one device over its units and one medium, the four events of its bus, and its switches.
 
-use crate::switch::Position;
+use crate::switch::Turn;
+use crate::unit::{self, Unit};
 
 /// The packets' size: document 01 has no other.
 pub const PACKET: usize = 64;
 
 /// COLLECTOR_RECORD_SIZE.
-const RECORD: usize = 576;
+const RECORD: usize = 560;
 
 /// `collector_record`. Its fields are the device's own; here only its size and alignment count.
 #[repr(C, align(8))]
@@ -29,12 +30,16 @@ extern "C" {
         vendor: u16,
         product: u16,
         release: u16,
+        units: *mut Unit,
+        unit_count: usize,
         medium: *const u8,
         medium_len: usize,
     ) -> RawAnswer;
-    fn collector_bus_reset(record: *mut Record) -> RawAnswer;
+    fn collector_bus_reset(record: *mut Record, units: *mut Unit, unit_count: usize) -> RawAnswer;
     fn collector_control(
         record: *mut Record,
+        units: *mut Unit,
+        unit_count: usize,
         setup: *const u8,
         setup_len: usize,
         buffer: *mut u8,
@@ -42,6 +47,8 @@ extern "C" {
     ) -> RawAnswer;
     fn collector_bulk_out(
         record: *mut Record,
+        units: *mut Unit,
+        unit_count: usize,
         medium: *mut u8,
         medium_len: usize,
         packet: *const u8,
@@ -49,12 +56,20 @@ extern "C" {
     ) -> RawAnswer;
     fn collector_bulk_in(
         record: *mut Record,
+        units: *const Unit,
+        unit_count: usize,
         medium: *const u8,
         medium_len: usize,
         buffer: *mut u8,
         buffer_len: usize,
     ) -> RawAnswer;
-    fn collector_set_switch(record: *mut Record, position: u8) -> RawAnswer;
+    fn collector_set_switch(
+        record: *mut Record,
+        units: *mut Unit,
+        unit_count: usize,
+        position: u8,
+        unit: u8,
+    ) -> RawAnswer;
 }
 
 /// The numbers given at making.
@@ -66,13 +81,13 @@ pub struct Identity {
     pub release: u16,
 }
 
-/// One thing that the bus brings, or a hand at the switch (document 02, A4).
+/// One thing that the bus brings, or a hand at a switch (document 02, A4).
 pub enum Event<'a> {
     Reset,
     Setup([u8; 8]),
     Out(&'a [u8]),
     In,
-    Switch(Position),
+    Switch(Turn),
 }
 
 /// Document 01's "Numbers that come back", as far as a bus can see them.
@@ -92,20 +107,32 @@ pub enum Answer {
 
 pub struct Collector {
     record: Box<Record>,
+    units: Vec<Unit>,
     medium: Vec<u8>,
 }
 
 impl Collector {
-    /// A newly made device over a medium, or the number of the refusal and the medium back.
-    pub fn make(identity: Identity, medium: Vec<u8>) -> Result<Self, (u32, Vec<u8>)> {
+    /// A newly made device with units of these sizes over a medium, or the number of the refusal and the medium back.
+    pub fn make(identity: Identity, sizes: &[u32], medium: Vec<u8>) -> Result<Self, (u32, Vec<u8>)> {
         let mut record = Box::new(Record([0; RECORD]));
+        let mut units = unit::table(sizes);
         let Identity { number, vendor, product, release } = identity;
-        // SAFETY: the record is a record's size and alignment, the medium valid for its length, and neither outlives the call.
+        // SAFETY: record and units have the sizes and alignments of C's, units and medium are valid for their lengths, and none outlives the call.
         let raw = unsafe {
-            collector_make(&mut *record, number, vendor, product, release, medium.as_ptr(), medium.len())
+            collector_make(
+                &mut *record,
+                number,
+                vendor,
+                product,
+                release,
+                units.as_mut_ptr(),
+                units.len(),
+                medium.as_ptr(),
+                medium.len(),
+            )
         };
         if (raw.number, raw.count) == (1, 0) {
-            Ok(Collector { record, medium })
+            Ok(Collector { record, units, medium })
         } else {
             Err((raw.number, medium))
         }
@@ -122,16 +149,25 @@ impl Collector {
     pub fn event(&mut self, event: &Event) -> Answer {
         let mut buffer = [0u8; PACKET];
         let record = &mut *self.record as *mut Record;
+        let (units, count) = (self.units.as_mut_ptr(), self.units.len());
         let medium = &mut self.medium;
-        // SAFETY: each pointer is valid for the length beside it, record and buffers are distinct, and calls come one after another.
+        // SAFETY: each pointer is valid for the length beside it, record, units and buffers are distinct, and calls come one after another.
         let raw = unsafe {
             match event {
-                Event::Reset => collector_bus_reset(record),
-                Event::Setup(bytes) => {
-                    collector_control(record, bytes.as_ptr(), bytes.len(), buffer.as_mut_ptr(), buffer.len())
-                }
+                Event::Reset => collector_bus_reset(record, units, count),
+                Event::Setup(bytes) => collector_control(
+                    record,
+                    units,
+                    count,
+                    bytes.as_ptr(),
+                    bytes.len(),
+                    buffer.as_mut_ptr(),
+                    buffer.len(),
+                ),
                 Event::Out(packet) => collector_bulk_out(
                     record,
+                    units,
+                    count,
                     medium.as_mut_ptr(),
                     medium.len(),
                     packet.as_ptr(),
@@ -139,12 +175,16 @@ impl Collector {
                 ),
                 Event::In => collector_bulk_in(
                     record,
+                    units,
+                    count,
                     medium.as_ptr(),
                     medium.len(),
                     buffer.as_mut_ptr(),
                     buffer.len(),
                 ),
-                Event::Switch(position) => collector_set_switch(record, *position as u8),
+                Event::Switch(Turn { position, unit }) => {
+                    collector_set_switch(record, units, count, *position as u8, *unit)
+                }
             }
         };
         match (raw.number, raw.count) {

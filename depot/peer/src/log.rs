@@ -1,7 +1,9 @@
-//! The log of events: one line for each thing that the bus brought, and for each turn of the switch, with its time and the device's answer.
-//! An event is written as the repository's recordings write it (tools/script.py), so that a run can become a recording.
+//! The log of events: one line for each thing that the bus brought, and for each turn of a switch, with its time and the device's answer.
+//! An event is written as the repository's recordings write it (tools/script.py), so that a run can become a recording; a turn of a
+//! switch names its unit.
 
 use crate::collector::{Answer, Event, Identity};
+use crate::switch::Turn;
 use std::fs::File;
 use std::io::{BufWriter, Write};
 use std::time::{SystemTime, UNIX_EPOCH};
@@ -25,7 +27,7 @@ pub fn event_text(event: &Event) -> String {
         Event::Setup(bytes) => format!("setup{}", hex(bytes)),
         Event::Out(packet) => format!("out{}", hex(packet)),
         Event::In => "in".into(),
-        Event::Switch(position) => format!("switch {}", position.name()),
+        Event::Switch(Turn { position, unit }) => format!("switch {} {unit}", position.name()),
     }
 }
 
@@ -56,9 +58,11 @@ impl Log {
         self.line(&format!("{} -> {}", event_text(event), answer_text(answer)));
     }
 
-    pub fn plugged(&mut self, identity: Identity, blocks: usize) {
+    pub fn plugged(&mut self, identity: Identity, sizes: &[u32]) {
         let Identity { number, vendor, product, release } = identity;
-        self.line(&format!("# plugged number={number} vendor={vendor:04X} product={product:04X} release={release:04X} blocks={blocks}"));
+        let units: Vec<String> = sizes.iter().map(u32::to_string).collect();
+        let units = units.join(",");
+        self.line(&format!("# plugged number={number} vendor={vendor:04X} product={product:04X} release={release:04X} units={units}"));
     }
 
     /// What happened beside the device's events: unplugged, a transfer cancelled.

@@ -1,11 +1,14 @@
 //! Plays a bench recording on the linked device, and prints what document 01's "The bench recording" prints.
 
 use crate::collector::{Answer, Collector, Event, Identity};
-use crate::switch::Position;
+use crate::switch::{Position, Turn};
 use std::io::{Read, Write};
 
 const LONGEST: usize = 16_384;
 const MOST_EVENTS: usize = 1_024;
+/// The bench's device has one unit, of 64 blocks.
+const UNITS: u8 = 1;
+const BLOCKS: u32 = 64;
 
 /// The recording's events, or None where it is malformed.
 fn parse(bytes: &[u8]) -> Option<Vec<Event<'_>>> {
@@ -27,7 +30,9 @@ fn parse(bytes: &[u8]) -> Option<Vec<Event<'_>>> {
             (2, 8) => Event::Setup(part.try_into().ok()?),
             (3, 0..=64) => Event::Out(part),
             (4, 0) => Event::In,
-            (5, 1) => Event::Switch(Position::numbered(part[0])?),
+            (5, 2) if part[1] < UNITS => {
+                Event::Switch(Turn { position: Position::numbered(part[0])?, unit: part[1] })
+            }
             _ => return None,
         });
         body += length;
@@ -55,7 +60,7 @@ pub fn play() -> std::io::Result<()> {
         return writeln!(out, "refused 16");
     };
     let identity = Identity { number: 42, ..Identity::default() };
-    let Ok(mut device) = Collector::make(identity, vec![0; 64 * 512]) else {
+    let Ok(mut device) = Collector::make(identity, &[BLOCKS], vec![0; BLOCKS as usize * 512]) else {
         panic!("the bench's device is made");
     };
     writeln!(out, "events {}", events.len())?;

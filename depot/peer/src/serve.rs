@@ -5,7 +5,7 @@ use crate::collector::{Collector, Identity};
 use crate::log::Log;
 use crate::medium;
 use crate::redir::{self, Packet, Status};
-use crate::switch::Position;
+use crate::switch::Turn;
 use std::io::{self, BufRead, Write};
 use std::num::NonZeroUsize;
 use std::os::unix::net::UnixStream;
@@ -24,8 +24,8 @@ struct Peer {
     log: Log,
     bus: Option<Bus>,
     medium: Vec<u8>,
-    /// Where the next device's switch is before that is plugged in; None: as made.
-    switch: Option<Position>,
+    /// The turns of the next device's switches, before it is plugged in.
+    turns: Vec<Turn>,
     /// An unplugging is done once QEMU has said that it saw it: then no transfer of the old device is on its way any more.
     unplugging: bool,
 }
@@ -38,7 +38,7 @@ pub fn serve(socket: &str, path: &str, start: &str) -> io::Result<()> {
     read_packets(stream.try_clone()?, sender.clone());
     read_orders(sender);
     let log = Log::new(path, start)?;
-    let mut peer = Peer { stream, log, bus: None, medium: vec![], switch: None, unplugging: false };
+    let mut peer = Peer { stream, log, bus: None, medium: vec![], turns: vec![], unplugging: false };
     for input in receiver {
         match input {
             Input::Packet(packet) => peer.packet(packet)?,
@@ -83,8 +83,8 @@ fn say(text: &str) -> io::Result<()> {
     out.flush()
 }
 
-fn named(position: &str) -> Result<Position, String> {
-    Position::named(position).ok_or_else(|| format!("{position} is no position"))
+fn sizes(words: &[&str]) -> Result<Vec<u32>, String> {
+    words.iter().map(|word| word.parse().map_err(|_| format!("{word} is no number of blocks"))).collect()
 }
 
 impl Peer {
@@ -92,10 +92,14 @@ impl Peer {
         let words: Vec<&str> = line.split(' ').collect();
         let outcome = match words[..] {
             ["load", path] => self.load(path),
-            ["plug", number, vendor, product, release] => self.plug(number, vendor, product, release),
+            ["plug", number, vendor, product, release, ref units @ ..] => {
+                sizes(units).and_then(|sizes| self.plug(number, vendor, product, release, &sizes))
+            }
             ["unplug"] if self.bus.is_some() => return self.unplug(),
-            ["switch", position] => self.switch(position),
-            ["switch", position, "after", packets] => self.switch_after(position, packets),
+            ["switch", position, unit] => Turn::named(position, unit).and_then(|turn| self.switch(turn)),
+            ["switch", position, unit, "after", packets] => {
+                Turn::named(position, unit).and_then(|turn| self.switch_after(turn, packets))
+            }
             ["save", path] => {
                 self.log.note(&format!("saved {path}"));
                 let medium = self.bus.as_ref().map_or(&self.medium[..], Bus::medium);
@@ -118,7 +122,14 @@ impl Peer {
         Ok(())
     }
 
-    fn plug(&mut self, number: &str, vendor: &str, product: &str, release: &str) -> Result<(), String> {
+    fn plug(
+        &mut self,
+        number: &str,
+        vendor: &str,
+        product: &str,
+        release: &str,
+        sizes: &[u32],
+    ) -> Result<(), String> {
         if self.bus.is_some() {
             return Err("a device is plugged in".into());
         }
@@ -126,12 +137,11 @@ impl Peer {
         let number = number.parse().map_err(|_| format!("{number} is no number"))?;
         let identity =
             Identity { number, vendor: hex(vendor)?, product: hex(product)?, release: hex(release)? };
-        match Collector::make(identity, std::mem::take(&mut self.medium)) {
+        match Collector::make(identity, sizes, std::mem::take(&mut self.medium)) {
             Ok(device) => {
-                self.log.plugged(identity, device.medium().len() / 512);
+                self.log.plugged(identity, sizes);
                 let mut bus = Bus::new(device);
-                let turned =
-                    self.switch.take().map_or(Ok(()), |position| bus.switch(position, &mut self.log));
+                let turned = self.turns.drain(..).try_for_each(|turn| bus.switch(turn, &mut self.log));
                 self.bus = Some(bus);
                 turned?;
                 let connect = redir::device_connect(identity.vendor, identity.product, identity.release);
@@ -141,29 +151,28 @@ impl Peer {
                     .map_err(|fault| fault.to_string())
             }
             Err((refused, medium)) => {
-                let blocks = medium.len() / 512;
                 self.medium = medium;
-                Err(format!("making over {blocks} blocks was refused with {refused}"))
+                let units: Vec<String> = sizes.iter().map(u32::to_string).collect();
+                Err(format!("making over {} blocks was refused with {refused}", units.join(" and ")))
             }
         }
     }
 
-    fn switch(&mut self, position: &str) -> Result<(), String> {
-        let position = named(position)?;
+    fn switch(&mut self, turn: Turn) -> Result<(), String> {
         match &mut self.bus {
-            Some(bus) => bus.switch(position, &mut self.log),
+            Some(bus) => bus.switch(turn, &mut self.log),
             None => {
-                self.switch = Some(position);
+                self.turns.push(turn);
                 Ok(())
             }
         }
     }
 
-    fn switch_after(&mut self, position: &str, packets: &str) -> Result<(), String> {
+    fn switch_after(&mut self, turn: Turn, packets: &str) -> Result<(), String> {
         let packets: NonZeroUsize =
             packets.parse().map_err(|_| format!("{packets} is no number of packets"))?;
         let bus = self.bus.as_mut().ok_or("no device is plugged in")?;
-        bus.switch_after(named(position)?, packets.get());
+        bus.switch_after(turn, packets.get());
         Ok(())
     }
 

@@ -1,4 +1,4 @@
-//! The write switch's positions (document 02, A4), as orders, the log and recordings have them.
+//! The write switches: their positions (document 02, A4) and whose they are (A7), as orders, the log and recordings have them.
 
 #[derive(Clone, Copy, PartialEq, Eq)]
 pub enum Position {
@@ -20,5 +20,20 @@ impl Position {
             Position::Open => "open",
             Position::Closed => "closed",
         }
+    }
+}
+
+/// A hand at the switch of one unit.
+#[derive(Clone, Copy)]
+pub struct Turn {
+    pub position: Position,
+    pub unit: u8,
+}
+
+impl Turn {
+    pub fn named(position: &str, unit: &str) -> Result<Turn, String> {
+        let position = Position::named(position).ok_or_else(|| format!("{position} is no position"))?;
+        let unit = unit.parse().map_err(|_| format!("{unit} is no unit"))?;
+        Ok(Turn { position, unit })
     }
 }

@@ -42,9 +42,9 @@ pub fn verify_10(block: u32, count: u16) -> [u8; 10] {
     ten(0x2F, block, count)
 }
 
-/// One block, by a whole command that passes.
-pub fn read_block(device: &Device, tag: u32, block: u32) -> Result<Vec<u8>> {
-    device.bulk_out(&cbw(tag, BLOCK as u32, true, 0, &read_10(block, 1)), None)?;
+/// One block of a unit, by a whole command that passes.
+pub fn read_block(device: &Device, unit: u8, tag: u32, block: u32) -> Result<Vec<u8>> {
+    device.bulk_out(&cbw(tag, BLOCK as u32, true, unit, &read_10(block, 1)), None)?;
     let data = device.bulk_in(BLOCK as u32, None)?;
     match device.bulk_in(13, None)? {
         status if status == csw(tag, 0, 0) => Ok(data),

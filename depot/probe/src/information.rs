@@ -38,7 +38,11 @@ pub fn other(key: u8, code: u8) -> [u8; SENSE] {
 impl Probe {
     /// A command without data that ends with this status.
     fn ends(&self, tag: u32, block: &[u8], status: u8) -> Step {
-        passes("a wrapper", self.device.bulk_out(&cbw(tag, 0, false, 0, block), None))?;
+        self.ends_for(0, tag, block, status)
+    }
+
+    pub fn ends_for(&self, unit: u8, tag: u32, block: &[u8], status: u8) -> Step {
+        passes("a wrapper", self.device.bulk_out(&cbw(tag, 0, false, unit, block), None))?;
         equal(
             &format!("status of {:02X}", block[0]),
             &passes("status", self.device.bulk_in(13, None))?,
@@ -53,7 +57,11 @@ impl Probe {
 
     /// Request Sense with this allocation length brings these bytes, which are all that it announces.
     pub fn request_sense(&self, tag: u32, most: u8, expected: &[u8]) -> Step {
-        let wrapper = cbw(tag, expected.len() as u32, true, 0, &[0x03, 0, 0, 0, most, 0]);
+        self.request_sense_for(0, tag, most, expected)
+    }
+
+    pub fn request_sense_for(&self, unit: u8, tag: u32, most: u8, expected: &[u8]) -> Step {
+        let wrapper = cbw(tag, expected.len() as u32, true, unit, &[0x03, 0, 0, 0, most, 0]);
         passes("a wrapper", self.device.bulk_out(&wrapper, None))?;
         if !expected.is_empty() {
             let data = passes("sense data", self.device.bulk_in(expected.len() as u32, None))?;
@@ -121,7 +129,7 @@ impl Probe {
             self.no_sense(tag + 2)?;
         }
         self.range_failure(0x820)?;
-        equal("block 9", &passes("a read", read_block(&self.device, 0x821, 9))?, self.block(9))?;
+        equal("block 9", &passes("a read", read_block(&self.device, 0, 0x821, 9))?, self.block(9))?;
         self.no_sense(0x822)?;
         Ok("70 and zeros after five commands without data and a Read".into())
     }

@@ -1,13 +1,14 @@
-//! What Linux's own driver never sends, sent to the collector from inside the guest: `probe DEVICE BEFORE DATA`.
+//! What Linux's own driver never sends, sent to the collector from inside the guest: `probe transport|units DEVICE BEFORE DATA`.
 //!
-//! DEVICE is the device's file under /dev/bus/usb, BEFORE its medium, DATA the bytes to write: block 5 is to get the first 512
-//! of them, blocks 20 and 21 the next 1,024, and no other block may change. Prints a line for each check: its name, `ok` or
-//! `FAILED`, and what was seen.
+//! DEVICE is the device's file under /dev/bus/usb, BEFORE its medium, DATA the bytes to write. Of a collector of one unit block 5
+//! is to get the first 512 of them, blocks 20 and 21 the next 1,024, and no other block may change; units.rs says what of a
+//! collector of four. Prints a line for each check: its name, `ok` or `FAILED`, and what was seen.
 
 mod bot;
 mod information;
 mod pages;
 mod switch;
+mod units;
 mod usbfs;
 
 use bot::{
@@ -142,7 +143,7 @@ impl Probe {
         )?;
         equal("the first block", &passes("data", self.device.bulk_in(BLOCK as u32, None))?, self.block(8))?;
         passes("Mass Storage Reset", mass_storage_reset(&self.device))?;
-        equal("block 9", &passes("a read", read_block(&self.device, 0x10A, 9))?, self.block(9))?;
+        equal("block 9", &passes("a read", read_block(&self.device, 0, 0x10A, 9))?, self.block(9))?;
         Ok("the command is dropped, the next one passes".into())
     }
 
@@ -153,7 +154,7 @@ impl Probe {
         )?;
         passes("half a block", self.device.bulk_out(&self.data[..BLOCK / 2], None))?;
         passes("Mass Storage Reset", mass_storage_reset(&self.device))?;
-        equal("block 10", &passes("a read", read_block(&self.device, 0x10C, 10))?, self.block(10))?;
+        equal("block 10", &passes("a read", read_block(&self.device, 0, 0x10C, 10))?, self.block(10))?;
         Ok("half a block that arrived is not stored".into())
     }
 
@@ -166,8 +167,8 @@ impl Probe {
         passes("9 packets and 10 bytes", self.device.bulk_out(&self.data[..9 * 64 + 10], None))?;
         equal("status", &passes("status", self.device.bulk_in(13, None))?, &csw(0x10F, BLOCK as u32, 2))?;
         passes("reset recovery", recover(&self.device))?;
-        equal("block 5", &passes("a read", read_block(&self.device, 0x110, 5))?, &self.data[..BLOCK])?;
-        equal("block 6", &passes("a read", read_block(&self.device, 0x111, 6))?, self.block(6))?;
+        equal("block 5", &passes("a read", read_block(&self.device, 0, 0x110, 5))?, &self.data[..BLOCK])?;
+        equal("block 6", &passes("a read", read_block(&self.device, 0, 0x111, 6))?, self.block(6))?;
         Ok("one block stored, residue 512, phase error".into())
     }
 
@@ -183,37 +184,39 @@ impl Probe {
     }
 }
 
-fn run(path: &str, before: &str, data: &str) -> Result<()> {
+/// What is sent to a collector of one unit, of 128 blocks.
+const TRANSPORT: [(&str, Check); 26] = [
+    ("early-ask", Probe::early_ask),
+    ("waiting-ask", Probe::waiting_ask),
+    ("early-wrapper", Probe::early_wrapper),
+    ("short-reply", Probe::short_reply),
+    ("long-inquiry", Probe::long_inquiry),
+    ("page-residue", Probe::page_residue),
+    ("page-of-0", Probe::page_of_0),
+    ("page-phase-error", Probe::page_phase_error),
+    ("page-codes", Probe::page_codes),
+    ("information-bytes", Probe::information_bytes),
+    ("information-other-senses", Probe::information_other_senses),
+    ("information-after-passed", Probe::information_after_passed),
+    ("information-cut", Probe::information_cut),
+    ("information-stays", Probe::information_stays),
+    ("information-after-drops", Probe::information_after_drops),
+    ("short-wrapper-locks", Probe::short_wrapper),
+    ("other-unit-locks", Probe::other_unit),
+    ("reset-in-read", Probe::reset_in_read),
+    ("reset-in-write", Probe::reset_in_write),
+    ("short-packet-in-write", Probe::short_packet),
+    ("switch-in-mode-sense", Probe::switch_in_mode_sense),
+    ("switch-in-refused-write", Probe::switch_in_refused_write),
+    ("switch-in-write", Probe::switch_in_write),
+    ("switch-drops-nothing", Probe::switch_drops_nothing),
+    ("switch-and-resets", Probe::switch_and_resets),
+    ("port-reset-in-write", Probe::port_reset_in_write),
+];
+
+fn run(checks: &[(&str, Check)], path: &str, before: &str, data: &str) -> Result<()> {
     let probe =
         Probe { device: Device::open(path)?, before: std::fs::read(before)?, data: std::fs::read(data)? };
-    let checks: [(&str, Check); 26] = [
-        ("early-ask", Probe::early_ask),
-        ("waiting-ask", Probe::waiting_ask),
-        ("early-wrapper", Probe::early_wrapper),
-        ("short-reply", Probe::short_reply),
-        ("long-inquiry", Probe::long_inquiry),
-        ("page-residue", Probe::page_residue),
-        ("page-of-0", Probe::page_of_0),
-        ("page-phase-error", Probe::page_phase_error),
-        ("page-codes", Probe::page_codes),
-        ("information-bytes", Probe::information_bytes),
-        ("information-other-senses", Probe::information_other_senses),
-        ("information-after-passed", Probe::information_after_passed),
-        ("information-cut", Probe::information_cut),
-        ("information-stays", Probe::information_stays),
-        ("information-after-drops", Probe::information_after_drops),
-        ("short-wrapper-locks", Probe::short_wrapper),
-        ("other-unit-locks", Probe::other_unit),
-        ("reset-in-read", Probe::reset_in_read),
-        ("reset-in-write", Probe::reset_in_write),
-        ("short-packet-in-write", Probe::short_packet),
-        ("switch-in-mode-sense", Probe::switch_in_mode_sense),
-        ("switch-in-refused-write", Probe::switch_in_refused_write),
-        ("switch-in-write", Probe::switch_in_write),
-        ("switch-drops-nothing", Probe::switch_drops_nothing),
-        ("switch-and-resets", Probe::switch_and_resets),
-        ("port-reset-in-write", Probe::port_reset_in_write),
-    ];
     for (name, check) in checks {
         match check(&probe) {
             Ok(seen) => println!("{name} ok {seen}"),
@@ -229,11 +232,16 @@ fn run(path: &str, before: &str, data: &str) -> Result<()> {
 
 fn main() {
     let words: Vec<String> = std::env::args().skip(1).collect();
-    let [device, before, data] = &words[..] else {
-        eprintln!("probe DEVICE BEFORE DATA");
-        std::process::exit(2);
+    let words: Vec<&str> = words.iter().map(String::as_str).collect();
+    let (checks, device, before, data): (&[(&str, Check)], _, _, _) = match words[..] {
+        ["transport", device, before, data] => (&TRANSPORT, device, before, data),
+        ["units", device, before, data] => (&units::CHECKS, device, before, data),
+        _ => {
+            eprintln!("probe transport|units DEVICE BEFORE DATA");
+            std::process::exit(2);
+        }
     };
-    if let Err(fault) = run(device, before, data) {
+    if let Err(fault) = run(checks, device, before, data) {
         println!("probe FAILED {fault}");
         std::process::exit(1);
     }

@@ -12,8 +12,8 @@ use std::io::{Error, Read, Result, Write};
 const DIALOGUE: &str = "/dev/ttyS1";
 
 /// Mode Sense's bytes.
-const OPEN: [u8; 4] = [0x03, 0, 0x00, 0];
-const CLOSED: [u8; 4] = [0x03, 0, 0x80, 0];
+pub const OPEN: [u8; 4] = [0x03, 0, 0x00, 0];
+pub const CLOSED: [u8; 4] = [0x03, 0, 0x80, 0];
 
 /// The blocks that the probe's Writes go to, if they go: the data behind block 5's.
 const PLACE: u32 = 20;
@@ -30,8 +30,12 @@ fn ask(order: &str) -> Result<()> {
     Err(Error::other(format!("the depot said {}", String::from_utf8_lossy(&answer))))
 }
 
+pub fn turn_of(unit: u8, position: &str) -> Step {
+    passes("the switch", ask(&format!("switch {position} {unit}")))
+}
+
 fn turn(position: &str) -> Step {
-    passes("the switch", ask(&format!("switch {position}")))
+    turn_of(0, position)
 }
 
 impl Probe {
@@ -39,11 +43,11 @@ impl Probe {
         &self.data[BLOCK..BLOCK + TWO]
     }
 
-    fn begins(&self, wrapper: &[u8]) -> Step {
+    pub fn begins(&self, wrapper: &[u8]) -> Step {
         passes("a wrapper", self.device.bulk_out(wrapper, None)).map(|_| ())
     }
 
-    fn ends_as(&self, tag: u32, residue: u32, status: u8) -> Step {
+    pub fn ends_as(&self, tag: u32, residue: u32, status: u8) -> Step {
         equal("status", &passes("status", self.device.bulk_in(13, None))?, &csw(tag, residue, status))
     }
 
@@ -51,7 +55,7 @@ impl Probe {
         self.begins(&cbw(tag, 4, true, 0, &[0x1A, 0, 0x3F, 0, 4, 0]))
     }
 
-    fn mode_sense_ends(&self, tag: u32, expected: &[u8]) -> Step {
+    pub fn mode_sense_ends(&self, tag: u32, expected: &[u8]) -> Step {
         equal("Mode Sense", &passes("data", self.device.bulk_in(4, None))?, expected)?;
         self.ends_as(tag, 0, 0)
     }

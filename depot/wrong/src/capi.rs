@@ -3,6 +3,8 @@
 use crate::device::{Answer, Device, Identity, Refusal};
 use crate::fault;
 use crate::record::Record;
+use crate::scsi::Sense;
+use crate::unit::{Unit, MAX_UNITS};
 use std::slice::{from_raw_parts, from_raw_parts_mut};
 
 /// `collector_answer` of the C header.
@@ -28,6 +30,12 @@ fn event(record: &mut Record, run: impl FnOnce(&mut Device) -> Answer) -> CAnswe
     answer.into()
 }
 
+/// The lent table. The peer, which is this library's only caller, lends one to four units; a table of another number is no table.
+unsafe fn table<'a>(units: *mut Unit, count: usize) -> &'a mut [Unit] {
+    assert!((1..=MAX_UNITS).contains(&count), "{count} units");
+    from_raw_parts_mut(units, count)
+}
+
 /// # Safety
 /// As of the C header: each pointer is valid for the length beside it, and no two calls run at once.
 #[no_mangle]
@@ -37,11 +45,14 @@ pub unsafe extern "C" fn collector_make(
     vendor: u16,
     product: u16,
     release: u16,
+    units: *mut Unit,
+    unit_count: usize,
     medium: *const u8,
     medium_len: usize,
 ) -> CAnswer {
-    let medium = from_raw_parts(medium, medium_len);
-    let made = fault::make(medium, Device::make(Identity { number, vendor, product, release }, medium));
+    let (units, medium) = (table(units, unit_count), from_raw_parts(medium, medium_len));
+    let made = Device::make(Identity { number, vendor, product, release }, units, medium);
+    let made = fault::make(units, medium, made);
     *record = made.as_ref().map_or(Record::ZERO, Device::to_record);
     made.map_or_else(Answer::Refused, |_| Answer::Ack).into()
 }
@@ -49,10 +60,15 @@ pub unsafe extern "C" fn collector_make(
 /// # Safety
 /// As of `collector_make`.
 #[no_mangle]
-pub unsafe extern "C" fn collector_bus_reset(record: &mut Record) -> CAnswer {
+pub unsafe extern "C" fn collector_bus_reset(
+    record: &mut Record,
+    units: *mut Unit,
+    unit_count: usize,
+) -> CAnswer {
+    let units = table(units, unit_count);
     let before = *record;
-    let answer = event(record, |device| device.bus_reset());
-    fault::bus_reset(&before, record);
+    let answer = event(record, |device| device.bus_reset(units));
+    fault::bus_reset(&before, record, units);
     answer
 }
 
@@ -61,15 +77,19 @@ pub unsafe extern "C" fn collector_bus_reset(record: &mut Record) -> CAnswer {
 #[no_mangle]
 pub unsafe extern "C" fn collector_control(
     record: &mut Record,
+    units: *mut Unit,
+    unit_count: usize,
     setup: *const u8,
     setup_len: usize,
     buffer: *mut u8,
     buffer_len: usize,
 ) -> CAnswer {
+    let units = table(units, unit_count);
     let (setup, buffer) = (from_raw_parts(setup, setup_len), from_raw_parts_mut(buffer, buffer_len));
     let before = *record;
-    let answer = event(record, |device| device.control(setup, buffer));
-    fault::control(&before, record, setup, buffer, answer)
+    let senses: Vec<Sense> = units.iter().map(Unit::sense).collect();
+    let answer = event(record, |device| device.control(units, setup, buffer));
+    fault::control(&before, record, units, &senses, setup, buffer, answer)
 }
 
 /// # Safety
@@ -77,17 +97,22 @@ pub unsafe extern "C" fn collector_control(
 #[no_mangle]
 pub unsafe extern "C" fn collector_bulk_out(
     record: &mut Record,
+    units: *mut Unit,
+    unit_count: usize,
     medium: *mut u8,
     medium_len: usize,
     packet: *const u8,
     packet_len: usize,
 ) -> CAnswer {
+    let units = table(units, unit_count);
     let (medium, packet) = (from_raw_parts_mut(medium, medium_len), from_raw_parts(packet, packet_len));
     let before = *record;
-    let answer = fault::take(packet, |packet| {
-        fault::store(&before, medium, |medium| event(record, |device| device.bulk_out(medium, packet)))
+    let answer = fault::take(units.len(), packet, |packet| {
+        fault::store(&before, units, medium, packet, |units, medium| {
+            event(record, |device| device.bulk_out(units, medium, packet))
+        })
     });
-    fault::bulk_out(record, packet);
+    fault::bulk_out(record, units, packet);
     answer
 }
 
@@ -96,22 +121,34 @@ pub unsafe extern "C" fn collector_bulk_out(
 #[no_mangle]
 pub unsafe extern "C" fn collector_bulk_in(
     record: &mut Record,
+    units: *const Unit,
+    unit_count: usize,
     medium: *const u8,
     medium_len: usize,
     buffer: *mut u8,
     buffer_len: usize,
 ) -> CAnswer {
+    let units: &[Unit] = table(units.cast_mut(), unit_count);
     let (medium, buffer) = (from_raw_parts(medium, medium_len), from_raw_parts_mut(buffer, buffer_len));
     let before = *record;
-    let answer = fault::send(medium, |medium| event(record, |device| device.bulk_in(medium, buffer)));
-    fault::bulk_in(&before, record, buffer, answer)
+    let answer = fault::send(&before, units, medium, |units, medium| {
+        event(record, |device| device.bulk_in(units, medium, buffer))
+    });
+    fault::bulk_in(&before, record, units, medium, buffer, answer)
 }
 
 /// # Safety
 /// As of `collector_make`.
 #[no_mangle]
-pub unsafe extern "C" fn collector_set_switch(record: &mut Record, position: u8) -> CAnswer {
-    let answer = event(record, |device| device.set_switch(position));
-    fault::set_switch(record);
+pub unsafe extern "C" fn collector_set_switch(
+    record: &mut Record,
+    units: *mut Unit,
+    unit_count: usize,
+    position: u8,
+    unit: u8,
+) -> CAnswer {
+    let units = table(units, unit_count);
+    let answer = event(record, |device| device.set_switch(units, position, unit));
+    fault::set_switch(record, units, position);
     answer
 }

@@ -2,158 +2,49 @@
 //! is lent before the event, or what it did after it; `before` is the record that the event found.
 
 mod information;
+mod kind;
 mod pages;
 mod switch;
+mod units;
 
 use crate::capi::CAnswer;
-use crate::device::{Device, Refusal};
+use crate::device::{Device, Refusal, MAX_BLOCKS};
 use crate::record::{flag, stage, Record};
-use crate::scsi::{code, control_place, REFUSED_CONTROL_BITS};
+use crate::scsi::{code, control_place, Sense, REFUSED_CONTROL_BITS};
+use crate::unit::Unit;
+use kind::{chosen, Fault};
 use std::ops::Range;
 use std::sync::atomic::{AtomicBool, Ordering};
-use std::sync::{Mutex, OnceLock};
+use std::sync::Mutex;
 
 const BLOCK: usize = 512;
-/// A command wrapper's length, and where its command block begins.
+/// A command wrapper's length, where its unit stands, and where its command block begins.
 const WRAPPER: usize = 31;
+const UNIT: usize = 13;
 const COMMAND: usize = 15;
 const DATA: u32 = 0;
 const ACK: u32 = 1;
 const NAK: u32 = 2;
 const STALL: u32 = 3;
 
-#[derive(Clone, Copy, PartialEq, Eq)]
-pub enum Fault {
-    None,
-    /// The serial number's digits without their zeros in front.
-    Digits,
-    /// Read Capacity gives the count and not the last block.
-    Capacity,
-    /// Mode Sense says that the medium is write protected.
-    Protected,
-    /// The status wrapper's tag is not the command's.
-    Tag,
-    /// Request Sense has forgotten why the command failed.
-    Sense,
-    /// Address plus count summed in 32 bits, in Verify.
-    Sum,
-    /// A range failure names its address also where that is in the unit (document 02, A8).
-    InformationAddress,
-    /// A range failure's number comes with 70, without the bit that makes it one.
-    InformationValid,
-    /// A range failure's number in little endian.
-    InformationOrder,
-    /// Where the sense is cleared, the number stays until Request Sense has told it.
-    InformationKept,
-    /// LINK and NACA in the control byte are ignored (document 02, A12).
-    Control,
-    /// Inquiry's allocation length is byte 4 alone, as it was before document 02, A1.
-    InquiryLength,
-    /// Page 80 has the collector number's digits without their zeros in front (document 02, A2).
-    PageDigits,
-    /// Page 83 has the vendor's seven letters without the space that makes a field of eight.
-    PageVendor,
-    /// A page that is cut tells the length of what is left of it.
-    PageCut,
-    /// A page that there is not is taken for no page: standard Inquiry data.
-    PageRefusal,
-    /// No halt after data that is shorter than announced: the status wrapper runs into the data.
-    NoHalt,
-    /// A bus reset does not end the lock of a phase error.
-    LockStays,
-    /// Writes are acknowledged and forgotten.
-    NeverStores,
-    /// A block is stored in the next one's place.
-    NextBlock,
-    /// Writes are read back, but never reach the medium: gone with the plug.
-    Volatile,
-    /// Residue 0 after a short read.
-    Residue,
-    /// Clear Feature frees a locked device.
-    ClearFrees,
-    /// A part block is stored at a reset.
-    PartStored,
-    /// A stall where nothing is due yet, in place of nak.
-    Impatient,
-    /// Making refuses more than 4,096 blocks, as it did before document 02, A5.
-    Limit,
-    /// The vendor's and the product's number in the wrong byte order.
-    ByteOrder,
-    /// Blocks are read and written at their address modulo 4,096: it is kept in 12 bits.
-    Wrap4096,
-    /// Blocks are read and written at their address modulo 65,536: it is kept in 16 bits.
-    Wrap65536,
-    /// Mode Sense does not know of the switch: its third byte is always 00 (document 02, A4).
-    SwitchUnseen,
-    /// The switch is checked before the range.
-    SwitchFirst,
-    /// A bus reset opens the switch.
-    SwitchBusReset,
-    /// A Mass Storage Reset opens the switch.
-    SwitchStorageReset,
-    /// A Write under way fails where the switch is closed in its middle.
-    SwitchCuts,
-    /// Mode Sense shows where the switch is when its bytes are sent.
-    SwitchAtAsk,
-}
-
-const NAMES: [(&str, Fault); 36] = [
-    ("none", Fault::None),
-    ("digits", Fault::Digits),
-    ("capacity", Fault::Capacity),
-    ("protected", Fault::Protected),
-    ("tag", Fault::Tag),
-    ("sense", Fault::Sense),
-    ("sum", Fault::Sum),
-    ("information-address", Fault::InformationAddress),
-    ("information-valid", Fault::InformationValid),
-    ("information-order", Fault::InformationOrder),
-    ("information-kept", Fault::InformationKept),
-    ("control", Fault::Control),
-    ("inquiry-length", Fault::InquiryLength),
-    ("page-digits", Fault::PageDigits),
-    ("page-vendor", Fault::PageVendor),
-    ("page-cut", Fault::PageCut),
-    ("page-refusal", Fault::PageRefusal),
-    ("no-halt", Fault::NoHalt),
-    ("lock-stays", Fault::LockStays),
-    ("never-stores", Fault::NeverStores),
-    ("next-block", Fault::NextBlock),
-    ("volatile", Fault::Volatile),
-    ("residue", Fault::Residue),
-    ("clear-frees", Fault::ClearFrees),
-    ("part-stored", Fault::PartStored),
-    ("impatient", Fault::Impatient),
-    ("limit", Fault::Limit),
-    ("byte-order", Fault::ByteOrder),
-    ("wrap-4096", Fault::Wrap4096),
-    ("wrap-65536", Fault::Wrap65536),
-    ("switch-unseen", Fault::SwitchUnseen),
-    ("switch-first", Fault::SwitchFirst),
-    ("switch-bus-reset", Fault::SwitchBusReset),
-    ("switch-storage-reset", Fault::SwitchStorageReset),
-    ("switch-cuts", Fault::SwitchCuts),
-    ("switch-at-ask", Fault::SwitchAtAsk),
-];
-
 /// What a record cannot hold: that a reset came while the device was locked, a block that a reset found half full, a medium of its own.
 static LOCK_STAYS: AtomicBool = AtomicBool::new(false);
 static PART: Mutex<Option<(usize, [u8; BLOCK])>> = Mutex::new(None);
 static OWN: Mutex<Option<Vec<u8>>> = Mutex::new(None);
 
-/// The fault that the environment names.
-fn chosen() -> Fault {
-    static CHOSEN: OnceLock<Fault> = OnceLock::new();
-    *CHOSEN.get_or_init(|| {
-        let name = std::env::var("DEPOT_WRONG").unwrap_or_else(|_| "none".into());
-        let found = NAMES.iter().find(|(known, _)| *known == name);
-        found.unwrap_or_else(|| panic!("DEPOT_WRONG={name}: no such fault")).1
-    })
+/// The unit of the command in hand.
+fn own<'a>(record: &Record, units: &'a [Unit]) -> &'a Unit {
+    &units[usize::from(record.unit)]
 }
 
-pub fn make(medium: &[u8], made: Result<Device, Refusal>) -> Result<Device, Refusal> {
+fn own_mut<'a>(record: &Record, units: &'a mut [Unit]) -> &'a mut Unit {
+    &mut units[usize::from(record.unit)]
+}
+
+pub fn make(units: &[Unit], medium: &[u8], made: Result<Device, Refusal>) -> Result<Device, Refusal> {
     match chosen() {
-        Fault::Limit if medium.len() > 4096 * BLOCK => return Err(Refusal::Medium),
+        Fault::Limit if units.iter().any(|unit| unit.blocks > 4096) => return Err(Refusal::Record),
+        Fault::UnitSum if medium.len() > MAX_BLOCKS as usize * BLOCK => return Err(Refusal::Medium),
         Fault::Volatile => *OWN.lock().unwrap() = Some(medium.to_vec()),
         _ => {}
     }
@@ -161,9 +52,10 @@ pub fn make(medium: &[u8], made: Result<Device, Refusal>) -> Result<Device, Refu
 }
 
 /// Runs a packet's event on the packet that the fault lets the device see. Data of a wrapper's length is dropped whatever it is.
-pub fn take(packet: &[u8], run: impl FnOnce(&[u8]) -> CAnswer) -> CAnswer {
+pub fn take(units: usize, packet: &[u8], run: impl FnOnce(&[u8]) -> CAnswer) -> CAnswer {
     let mut seen = packet.to_vec();
     if seen.len() == WRAPPER {
+        units::misread(units, &mut seen[UNIT]);
         misread(&mut seen[COMMAND..]);
     }
     run(&seen)
@@ -179,65 +71,81 @@ fn misread(block: &mut [u8]) {
 }
 
 /// Where the write under way puts its next block; block 0 where none is under way.
-fn place(before: &Record) -> Range<usize> {
-    let block = if before.stage == stage::DATA_OUT { before.place as usize } else { 0 };
+fn place(before: &Record, units: &[Unit]) -> Range<usize> {
+    let block =
+        if before.stage == stage::DATA_OUT { (own(before, units).first + before.place) as usize } else { 0 };
     block * BLOCK..(block + 1) * BLOCK
 }
 
-/// Runs a packet's event on the medium that the fault lets the device have.
-pub fn store(before: &Record, medium: &mut [u8], run: impl FnOnce(&mut [u8]) -> CAnswer) -> CAnswer {
+/// Runs a packet's event on the table and the medium that the fault lets the device have.
+pub fn store(
+    before: &Record,
+    units: &mut [Unit],
+    medium: &mut [u8],
+    packet: &[u8],
+    run: impl FnOnce(&mut [Unit], &mut [u8]) -> CAnswer,
+) -> CAnswer {
     match chosen() {
         Fault::NeverStores | Fault::NextBlock => {
-            let place = place(before);
+            let place = place(before, units);
             let old = medium[place.clone()].to_vec();
-            let answer = run(medium);
+            let answer = run(units, medium);
             if chosen() == Fault::NextBlock && medium[place.clone()] != old {
                 medium.copy_within(place.clone(), place.end % medium.len());
             }
             medium[place].copy_from_slice(&old);
             answer
         }
-        Fault::Volatile => run(OWN.lock().unwrap().as_mut().expect("made")),
+        Fault::Volatile => run(units, OWN.lock().unwrap().as_mut().expect("made")),
         Fault::PartStored => {
             if let Some((at, part)) = PART.lock().unwrap().take() {
                 medium[at..at + BLOCK].copy_from_slice(&part);
             }
-            run(medium)
+            run(units, medium)
         }
-        _ => run(medium),
+        _ => units::store(before, units, medium, packet, run),
     }
 }
 
-/// Runs an ask on the medium that the device has.
-pub fn send(medium: &[u8], run: impl FnOnce(&[u8]) -> CAnswer) -> CAnswer {
+/// Runs an ask on the table and the medium that the device has.
+pub fn send(
+    before: &Record,
+    units: &[Unit],
+    medium: &[u8],
+    run: impl FnOnce(&[Unit], &[u8]) -> CAnswer,
+) -> CAnswer {
     match &*OWN.lock().unwrap() {
-        Some(own) => run(own),
-        None => run(medium),
+        Some(own) => run(units, own),
+        None => units::lend(before, units, |units| run(units, medium)),
     }
 }
 
 /// A command was dropped that had gathered a part of a block.
-fn dropped(before: &Record, record: &Record) {
+fn dropped(before: &Record, units: &[Unit], record: &Record) {
     if before.stage == stage::DATA_OUT && before.value > 0 && record.stage == stage::READY {
-        *PART.lock().unwrap() = Some((before.place as usize * BLOCK, before.part));
+        *PART.lock().unwrap() = Some((place(before, units).start, before.part));
     }
 }
 
-pub fn bus_reset(before: &Record, record: &mut Record) {
+pub fn bus_reset(before: &Record, record: &Record, units: &mut [Unit]) {
     match chosen() {
         Fault::LockStays if before.locked() => LOCK_STAYS.store(true, Ordering::Relaxed),
-        Fault::PartStored => dropped(before, record),
-        _ => switch::bus_reset(record),
+        Fault::PartStored => dropped(before, units, record),
+        _ => switch::bus_reset(units),
     }
 }
 
-pub fn set_switch(record: &mut Record) {
-    switch::turned(record);
+pub fn set_switch(record: &mut Record, units: &mut [Unit], position: u8) {
+    switch::turned(record, units);
+    units::turned(units, position);
 }
 
+/// `senses` are the units' before the request.
 pub fn control(
     before: &Record,
     record: &mut Record,
+    units: &mut [Unit],
+    senses: &[Sense],
     setup: &[u8],
     buffer: &mut [u8],
     answer: CAnswer,
@@ -250,7 +158,7 @@ pub fn control(
             let halt = if setup[4] == 0x81 { flag::HALT_IN } else { flag::HALT_OUT };
             record.flags &= !(flag::LOCKED | halt);
         }
-        Fault::PartStored => dropped(before, record),
+        Fault::PartStored => dropped(before, units, record),
         Fault::ByteOrder if answer.count == 18 && setup[..4] == [0x80, 0x06, 0x00, 0x01] => {
             buffer.swap(8, 9);
             buffer.swap(10, 11);
@@ -258,7 +166,10 @@ pub fn control(
         Fault::Digits if answer.count == 26 && setup[..6] == [0x80, 0x06, 0x03, 0x03, 0x09, 0x04] => {
             return CAnswer { number: DATA, count: without_zeros(buffer) };
         }
-        _ => switch::control(record, setup),
+        _ => {
+            switch::control(units, setup);
+            units::control(units, senses, setup, buffer);
+        }
     }
     answer
 }
@@ -280,7 +191,7 @@ fn wrap(record: &mut Record, blocks: u32) {
     }
 }
 
-pub fn bulk_out(record: &mut Record, packet: &[u8]) {
+pub fn bulk_out(record: &mut Record, units: &mut [Unit], packet: &[u8]) {
     match chosen() {
         Fault::Wrap4096 => wrap(record, 4096),
         Fault::Wrap65536 => wrap(record, 65_536),
@@ -288,21 +199,28 @@ pub fn bulk_out(record: &mut Record, packet: &[u8]) {
         Fault::Sum if record.stage == stage::FAILED && packet.len() == WRAPPER && packet[COMMAND] == 0x2F => {
             let address = u32::from_be_bytes(packet[17..21].try_into().unwrap());
             let count = u16::from_be_bytes(packet[22..24].try_into().unwrap());
-            if address.wrapping_add(count.into()) <= record.blocks {
+            if address.wrapping_add(count.into()) <= own(record, units).blocks {
                 record.stage = stage::PASSED;
-                (record.sense_key, record.sense_asc, record.sense_ascq) = (0, 0, 0);
-                record.sense_information = 0;
+                own_mut(record, units).set_sense(Sense::NONE);
             }
         }
         _ => {
             pages::begin(record);
-            information::begin(record, packet);
-            switch::begin(record, packet);
+            information::begin(record, units, packet);
+            switch::begin(record, units, packet);
+            units::begin(record, units);
         }
     }
 }
 
-pub fn bulk_in(before: &Record, record: &mut Record, buffer: &mut [u8], answer: CAnswer) -> CAnswer {
+pub fn bulk_in(
+    before: &Record,
+    record: &mut Record,
+    units: &[Unit],
+    medium: &[u8],
+    buffer: &mut [u8],
+    answer: CAnswer,
+) -> CAnswer {
     if answer.number == NAK && chosen() == Fault::Impatient {
         return CAnswer { number: STALL, count: 0 };
     }
@@ -322,8 +240,9 @@ pub fn bulk_in(before: &Record, record: &mut Record, buffer: &mut [u8], answer: 
         Fault::Wrap65536 => wrap(record, 65_536),
         _ => {
             pages::send(before, &mut buffer[..answer.count]);
-            information::send(before, &mut buffer[..answer.count]);
-            switch::send(before, &mut buffer[..answer.count]);
+            information::send(before, units, &mut buffer[..answer.count]);
+            switch::send(before, units, &mut buffer[..answer.count]);
+            units::send(before, units, medium, &mut buffer[..answer.count]);
         }
     }
     answer

@@ -23,6 +23,8 @@ mod record;
 mod scsi;
 #[path = "../../../rust/src/switch.rs"]
 mod switch;
+#[path = "../../../rust/src/unit.rs"]
+mod unit;
 #[path = "../../../rust/src/usb.rs"]
 mod usb;
 #[path = "../../../rust/src/wrapper.rs"]

@@ -1,7 +1,8 @@
 //! Faults of the block that a range failure names (document 02, A8), made in the sense data as it goes out.
 
-use super::{chosen, Fault, COMMAND, WRAPPER};
+use super::{chosen, own, Fault, COMMAND, WRAPPER};
 use crate::record::{stage, Record};
+use crate::unit::Unit;
 use std::sync::Mutex;
 
 const OUT_OF_RANGE: u8 = 0x21;
@@ -14,22 +15,22 @@ const INFORMATION: usize = 3;
 static ADDRESS: Mutex<Option<u32>> = Mutex::new(None);
 
 /// At the wrapper.
-pub fn begin(record: &Record, packet: &[u8]) {
+pub fn begin(record: &Record, units: &[Unit], packet: &[u8]) {
     if record.stage == stage::FAILED && packet.len() == WRAPPER {
         let address = u32::from_be_bytes(packet[COMMAND + 2..COMMAND + 6].try_into().unwrap());
-        *ADDRESS.lock().unwrap() = (record.sense_asc == OUT_OF_RANGE).then_some(address);
+        *ADDRESS.lock().unwrap() = (own(record, units).sense_asc == OUT_OF_RANGE).then_some(address);
     }
 }
 
 /// At the ask: sense data goes in one packet, and may be cut.
-pub fn send(before: &Record, sent: &mut [u8]) {
+pub fn send(before: &Record, units: &[Unit], sent: &mut [u8]) {
     if before.stage != stage::REQUEST_SENSE {
         return;
     }
     let Some(address) = ADDRESS.lock().unwrap().take() else {
         return;
     };
-    let number = address.max(before.blocks);
+    let number = address.max(own(before, units).blocks);
     let (valid, information) = match (chosen(), sent[0] & VALID != 0) {
         (Fault::InformationAddress, true) => (VALID, address.to_be_bytes()),
         (Fault::InformationValid, true) => (0, number.to_be_bytes()),
