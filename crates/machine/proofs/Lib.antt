@@ -26,8 +26,12 @@ pub mod Sheet
 pub mod RefusedBlock
 pub mod Switch
 pub mod SeveralUnits
+pub mod Handed
 pub mod Apart
 pub mod Kept
 pub mod Twins
 pub mod Isolation
+pub mod Book
+pub mod Ledger
 pub mod Witness
+pub mod LedgerWitness

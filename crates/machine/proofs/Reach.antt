@@ -94,18 +94,19 @@ host-amount h = by-if (λ (t : Transfer). amount t ≡ h .announced) (h .inward)
 pub case-follows : (h : Header) (p : Plan) → Follows (h .announced) (amount (hasOf p)) (caseOf (hostOf h) (hasOf p))
 case-follows h p = subst (λ (a : ℕ). Follows a (amount (hasOf p)) (caseOf (hostOf h) (hasOf p))) (host-amount h) (cases-follow (hostOf h) (hasOf p))
 
--- the plan of an accepted wrapper keeps to its unit, which is in the table
-record Planned (us : Table) (h : Header) (x : Plan) : Type 0 where
-  listed : inTable (h .lun) us ≡ true
-  fits : PlanFits (unitAt us (h .lun) .blocks) x
+-- an accepted wrapper has the packet's fields; its plan keeps to its unit, which is in the table
+pub record Planned (us : Table) (p : List ℕ) (h : Header) (x : Plan) : Type 0 where
+  pub read : headerOf p ≡ h
+  pub listed : inTable (h .lun) us ≡ true
+  pub fits : PlanFits (unitAt us (h .lun) .blocks) x
 
-planned : (us : Table) (p : List ℕ) (h : Header) (x : Plan) → wrapperOf us p ≡ Good h x → Planned us h x
+pub planned : (us : Table) (p : List ℕ) (h : Header) (x : Plan) → wrapperOf us p ≡ Good h x → Planned us p h x
 unfolding wrapperOf accepted
 planned us p h x =
-    by-if (λ (w : Wrapper). w ≡ Good h x → Planned us h x) (accepted (length us) p) _ _
-    (λ a e. subst (λ (y : Plan). Planned us h y) (plan-same e)
-    (subst (λ (y : Header). Planned us y (planFor (unitAt us (headerOf p .lun)) (drop 15 p))) (header-same e)
-    (record { listed = both _ _ (both _ _ a .1) .0; fits = plan-fits (drop 15 p) (unitAt us (headerOf p .lun) .blocks) _ })))
+    by-if (λ (w : Wrapper). w ≡ Good h x → Planned us p h x) (accepted (length us) p) _ _
+    (λ a e. subst (λ (y : Plan). Planned us p h y) (plan-same e)
+    (subst (λ (y : Header). Planned us p y (planFor (unitAt us (headerOf p .lun)) (drop 15 p))) (header-same e)
+    (record { read = refl; listed = both _ _ (both _ _ a .1) .0; fits = plan-fits (drop 15 p) (unitAt us (headerOf p .lun) .blocks) _ })))
     (λ _ e. absurd (broken e))
   where
     plan-same : {a b : Header} {y z : Plan} → Good a y ≡ Good b z → y ≡ z

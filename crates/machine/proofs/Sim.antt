@@ -56,6 +56,28 @@ stored-same us vs m [] e = refl
 stored-same us vs m (b ∷ bs) e =
     ap (λ (n : ℕ). stored us (placed m (512 * (n + b .number)) (b .bytes)) bs) (same-first us vs e (b .lun)) ∙ stored-same us vs _ bs e
 
+-- ---- what the tally makes of a packet of data
+
+module _ (v block left : ℕ) (held p : List ℕ) (l : Log) where
+  pub taken-short : eqb (length p) 64 ≡ false → taken (writing v block left held) p l ≡ turned l idle []
+  unfolding taken
+  taken-short h = if-false _ _ _ h
+
+  pub taken-half : eqb (length p) 64 ≡ true → length held + 64 < 512 → taken (writing v block left held) p l ≡ turned l (writing v block left (held ++ p)) []
+  unfolding taken
+  taken-half h n =
+      let y = length-append held p in
+      let e = eqb-true (length p) 64 h in
+      if-true _ _ _ h ∙ if-false _ _ _ (ne-eqb (length (held ++ p)) 512 (λ x. omega arith))
+
+  pub taken-full : eqb (length p) 64 ≡ true → length held + 64 ≡ 512
+      → taken (writing v block left held) p l ≡ turned l (following v block left) (record { lun = v; number = block; bytes = held ++ p } ∷ [])
+  unfolding taken
+  taken-full h n =
+      let y = length-append held p in
+      let e = eqb-true (length p) 64 h in
+      if-true _ _ _ h ∙ if-true _ _ _ (eq-eqb (length (held ++ p)) 512 (omega arith))
+
 -- ---- the relation
 
 -- the held bytes of a write are the front of the part block
@@ -70,6 +92,10 @@ pub record Gathers (left : ℕ) (held : List ℕ) (n : ℕ) (part : List ℕ) : 
 pub data Together : Tally → Stage → ℕ → List ℕ → Type 0 where
   rests : {g : Stage} {v : ℕ} {b : List ℕ} → Still g → b ≡ zeros 512 → Together idle g v b
   gathers : {v block left n : ℕ} {held b : List ℕ} → Gathers left held n b → Together (writing v block left held) (DataOut block left n) v b
+
+-- a packet that does not leave room for another fills the block
+pub fills : {left n : ℕ} {held b : List ℕ} → Gathers left held n b → ltb (n + 64) 512 ≡ false → n + 64 ≡ 512
+fills {n = n} g h = let a = ltb-false (n + 64) 512 h in let b = g .below in let q = g .packets in omega arith
 
 pub record Sim (k : Making) (l : Log) (w : World) : Type 0 where
   pub identity : w .dev .identity ≡ k .identity
@@ -296,30 +322,8 @@ module _ (k : Making) (l : Log) (w : World) (s : Sim k l w) where
             front = placed-held ∙ fill bytes p 512 (omega arith) ∙ ap (λ (j : ℕ). (bytes ++ p) ++ zeros (512 - j)) (sym y);
           }
 
-      -- what the tally makes of it
-      short : eqb (length p) 64 ≡ false → taken (writing (t₀ .lun) block left bytes) p l ≡ turned l idle []
-      unfolding taken
-      short h = if-false _ _ _ h
-
-      half : eqb (length p) 64 ≡ true → held + 64 < 512 → taken (writing (t₀ .lun) block left bytes) p l ≡ turned l (writing (t₀ .lun) block left (bytes ++ p)) []
-      unfolding taken
-      half h n =
-          let z = g .size in
-          let y = length-append bytes p in
-          let e = eqb-true (length p) 64 h in
-          if-true _ _ _ h ∙ if-false _ _ _ (ne-eqb (length (bytes ++ p)) 512 (λ x. omega arith))
-
-      full : eqb (length p) 64 ≡ true → held + 64 ≡ 512
-          → taken (writing (t₀ .lun) block left bytes) p l ≡ turned l (following (t₀ .lun) block left) (record { lun = t₀ .lun; number = block; bytes = bytes ++ p } ∷ [])
-      unfolding taken
-      full h n =
-          let z = g .size in
-          let y = length-append bytes p in
-          let e = eqb-true (length p) 64 h in
-          if-true _ _ _ h ∙ if-true _ _ _ (eq-eqb (length (bytes ++ p)) 512 (omega arith))
-
       filled : ltb (held + 64) 512 ≡ false → held + 64 ≡ 512
-      filled h = let a = ltb-false (held + 64) 512 h in let b = g .below in let q = g .packets in omega arith
+      filled h = fills g h
 
       same-unit : cleared (set us (t₀ .lun) u) ≡ cleared us
       same-unit = ap cleared (set-getD us (t₀ .lun) _)
@@ -333,9 +337,9 @@ module _ (k : Making) (l : Log) (w : World) (s : Sim k l w) where
           by-if Lifted (eqb (length p) 64) _ _
           (λ h. by-if Lifted (ltb (held + 64) 512) _ _
           (λ n. let n′ = ltb-true (held + 64) 512 n in
-          packet _ _ _ i (half h n′) (moves (writing (t₀ .lun) block left (bytes ++ p)) [] _ _ _ _ _ _ (gathers (more (eqb-true _ _ h) n′)) same-unit (in-place-same u (w .medium) (f .room))))
-          (λ n. packet _ _ _ i (full h (filled n)) (moves (following (t₀ .lun) block left) _ _ _ _ (zeros 512) _ _ (follows (t₀ .lun) block left) same-unit (whole (eqb-true _ _ h) (filled n)))))
-          (λ h. packet _ _ _ i (short h) (moves idle [] _ _ _ (zeros 512) _ _ (rests tt refl) (cleared-sensed us (t₀ .lun) _) (in-place-same u (w .medium) (f .room))))
+          packet _ _ _ i (taken-half _ _ _ bytes p l h (let z = g .size in omega arith)) (moves (writing (t₀ .lun) block left (bytes ++ p)) [] _ _ _ _ _ _ (gathers (more (eqb-true _ _ h) n′)) same-unit (in-place-same u (w .medium) (f .room))))
+          (λ n. packet _ _ _ i (taken-full _ _ _ bytes p l h (let z = g .size in let y = filled n in omega arith)) (moves (following (t₀ .lun) block left) _ _ _ _ (zeros 512) _ _ (follows (t₀ .lun) block left) same-unit (whole (eqb-true _ _ h) (filled n)))))
+          (λ h. packet _ _ _ i (taken-short _ _ _ bytes p l h) (moves idle [] _ _ _ (zeros 512) _ _ (rests tt refl) (cleared-sensed us (t₀ .lun) _) (in-place-same u (w .medium) (f .room))))
 
     datas : (block left held v : ℕ) (t : Tally) → l .tally ≡ t → v ≡ t₀ .lun → Together t (DataOut block left held) v (d .part) → Writes w block left
         → Taken (inUnit w (t₀ .lun) (onData block left held p))

@@ -2,17 +2,15 @@
 use Prim.Native.Nat.{ℕ, _+_, _*_, _-_, _%_, _≤_, _<_, min}
 use mathlib.Core.Path.{_≡_, refl, sym, ap, _∙_, subst}
 use mathlib.Core.Bool.{Bool, true, false, true≢false}
-use mathlib.Core.List.{List, [], _++_}
+use mathlib.Core.List.{List, []}
 use native.Mathlib.Omega.{arith}
-use native.Mathlib.Nat.{zero-add}
 use lib.Dec.{leb, ltb, eqb}
 use lib.ListN.{length, take, drop, set}
-use lib.Seq.{take-at}
 use borrow.Author.Tests.{leb-true, leb-false, eqb-true, eqb-false}
 use Rattle.wire.specs.Choice.{if_then_else_, _and_}
 use Rattle.wire.specs.Slices.{placed}
 use Rattle.wire.proofs.Cases.{by-if, if-false, both}
-use Rattle.wire.proofs.Lists.{placed-yes, length-placed}
+use Rattle.wire.proofs.Lists.{length-placed}
 use Rattle.wire.proofs.Parts.{length-part}
 use Rattle.scsi.specs.declared.command.Plan.{Plan}
 use Rattle.scsi.specs.declared.command.Plan.the-variants as plan
@@ -21,7 +19,6 @@ use Rattle.cases.specs.declared.Transfer.{Transfer}
 use Rattle.cases.specs.declared.Transfer.the-variants as transfer
 use Rattle.cases.specs.declared.Ending.{Ending}
 use Rattle.cases.specs.declared.Ending.the-variants as ending
-use Rattle.bot.specs.Csw.{readCsw}
 use Rattle.bot.specs.declared.cbw.Header.{Header}
 use Rattle.bot.specs.declared.csw.Status.{Status}
 use Rattle.bot.specs.declared.csw.Status.the-variants.{Passed, Failed, PhaseError}
@@ -50,12 +47,14 @@ use Rattle.machine.specs.Begin.{hostOf, hasOf, dataStage, firstStage, st
 use Rattle.machine.specs.Bulk.{lockedState, onWrapper, cutState, cutShort, gatheredState, gathered, nextOut, storedState, storedBlock, onData, outStage, packetOut, nextIn, handedState, nextPacket, afterStatus, cswOf, askStage, ask, bytesOf, deliver, packetIn}
 use Rattle.machine.specs.Machine.{Event, busReset, control, bulkOut, bulkIn, setSwitch, lent, checks, effect, seen, step}
 use Rattle.machine.specs.Tally.{Making, Tally, idle, Log, isAck}
-use Rattle.machine.specs.Isolation.{Apart, IsWriting, Alike, same, data-to, Source, from, readOf, sourceOf, sourceAfter, reads, ReadsFrom, isStatus}
+use Rattle.machine.specs.Handed.{handed, isStatus}
+use Rattle.machine.specs.Isolation.{Apart, IsWriting, Alike, same, data-to, Source, from, readOf, sourceOf, sourceAfter, reads, ReadsFrom}
 use Rattle.machine.proofs.Judge.{Passed as Checked, fit-passed, out-medium, in-medium, in-room}
 use Rattle.machine.proofs.Pairs.{pair-if, pair-judge, pair-perform}
 use Rattle.machine.proofs.Tables.{same-part}
 use Rattle.machine.proofs.Fit.{fit-of, lun-fits, stage-fits, writes}
 use Rattle.machine.proofs.Sim.{Together, rests, gathers, Sim, parts-of, same-wrapper, at-rest}
+use Rattle.machine.proofs.Handed.{in-front, whole-packet}
 use Rattle.machine.proofs.Apart.{length-own, own, others}
 
 -- ---- the relation
@@ -88,7 +87,7 @@ pub record Twin (us : Table) (b : ℕ) (x : Source) (w w′ : World) : Type 0 wh
 pub record Matches (us : Table) (b : ℕ) (x : Source) (l : Log) (e : Event) (o o′ : Out) : Type 0 where
   pub answers : o .answer ≡ o′ .answer
   pub buffers : (ReadsFrom b x e → ⊥) → o .buffer ≡ o′ .buffer
-  pub statuses : isStatus (seen o) ≡ true → o .buffer ≡ o′ .buffer
+  pub statuses : isStatus (handed (seen o) .bytes) ≡ true → o .buffer ≡ o′ .buffer
   pub next : Twin us b (reads l e (o .answer) x) (o .world) (o′ .world)
 
 -- a write to b under way is a stage with data for b
@@ -116,20 +115,6 @@ first-shape ending.Command transfer.None p h u = tt
 first-shape ending.Command (transfer.In n) p h u = data-shape p h u
 first-shape ending.Command (transfer.Out n) p h u = data-shape p h u
 first-shape ending.PhaseError t p h u = tt
-
--- ---- a packet of a read is no status wrapper
-
-in-front : (b s : List ℕ) → length s ≤ length b → take (length s) (placed b 0 s) ≡ s
-in-front b s h =
-    ap (take (length s)) (placed-yes b 0 s (omega arith) ∙ ap (λ (n : ℕ). s ++ drop n b) (zero-add (length s))) ∙ take-at s (drop (length s) b) (length s) refl
-
-not-csw : (s : List ℕ) → length s ≡ 64 → eqb (readCsw s .number) 1 ≡ false
-unfolding readCsw if_then_else_ _and_
-not-csw s n = rw n refl
-
-no-status : (b s : List ℕ) (w : World) → length s ≡ 64 → 64 ≤ length b → isStatus (seen (sends s w b)) ≡ true → ⊥
-unfolding isStatus
-no-status b s w n h e = true≢false (sym e ∙ ap (λ (y : List ℕ). eqb (readCsw y .number) 1) (in-front b s (omega arith)) ∙ not-csw s n)
 
 -- ---- one event
 
@@ -204,7 +189,7 @@ module _ (k : Making) (b : ℕ) (x : Source) (l : Log) (i : Identity) (s : State
         record {
           answers = ap Data (n ∙ sym n′);
           buffers = λ q. absurd (q f);
-          statuses = λ q. absurd (no-status c (bytesOf y w) (inState w z) n (in-room c c ok) q);
+          statuses = λ q. absurd (true≢false (sym q ∙ ap isStatus (in-front c (bytesOf y w) (inState w z) (let r = in-room c c ok in omega arith)) ∙ whole-packet (bytesOf y w) n));
           next = record { identity = refl; state = refl; units = refl; part = λ _. e; media = apart; shape = h };
         }
 

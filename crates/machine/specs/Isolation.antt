@@ -4,22 +4,21 @@ use mathlib.Core.Path.{_≡_}
 use mathlib.Core.Bool.{Bool, true, false}
 use mathlib.Core.List.{List, [], _∷_}
 use lib.Dec.{eqb}
-use lib.ListN.{length, take}
+use lib.ListN.{length}
 use Rattle.wire.specs.Choice.{if_then_else_, _and_}
 use Rattle.scsi.specs.declared.command.Plan.{Plan}
 use Rattle.scsi.specs.declared.command.Plan.the-variants.{Failed, Nothing, Reply, Read, Write}
-use Rattle.bot.specs.Csw.{readCsw}
 use Rattle.bot.specs.declared.cbw.Header.{Header}
 use Rattle.machine.specs.declared.record.Stage.{Stage}
 use Rattle.machine.specs.declared.record.Stage.the-variants.{Ready, DataOut, DataIn, ReplyIn, StatusDue}
 use Rattle.machine.specs.declared.wrapper.Wrapper.{Wrapper}
 use Rattle.machine.specs.declared.wrapper.Wrapper.the-variants.{Broken, Good}
 use Rattle.machine.specs.declared.answer.Answer.{Answer}
-use Rattle.machine.specs.Answer.{countOf}
 use Rattle.machine.specs.Units.{Table, unitAt, partOf}
 use Rattle.machine.specs.World.{World}
 use Rattle.machine.specs.Wrapper.{wrapperOf}
 use Rattle.machine.specs.Machine.{Event, busReset, control, bulkOut, bulkIn, setSwitch, Seen, step}
+use Rattle.machine.specs.Handed.{handed, isStatus}
 use Rattle.machine.specs.Tally.{Making, Tally, idle, writing, Log, start, isAck, noted}
 use Rattle.machine.specs.Claim.{answers, Makes, lived}
 
@@ -109,10 +108,6 @@ ReadsFrom b x (bulkOut p) = ⊥
 ReadsFrom b x (bulkIn c) = x ≡ from b
 ReadsFrom b x (setSwitch y n) = ⊥
 
--- What was handed out is a status wrapper.
-unfoldable pub isStatus : Seen → Bool
-isStatus r = eqb (readCsw (take (countOf (r .answer)) (r .buffer)) .number) 1
-
 -- One event of the two histories.
 pub record Agrees (us : Table) (b : ℕ) (x : Source) (e : Event) (r r′ : Seen) : Type 0 where
   -- "equal stalls .. everywhere": every answer, its count too
@@ -120,7 +115,7 @@ pub record Agrees (us : Table) (b : ℕ) (x : Source) (e : Event) (r r′ : Seen
   -- "equal answers to commands for district A": all bytes, but those that a Read of b hands out
   pub buffers : (ReadsFrom b x e → ⊥) → r .buffer ≡ r′ .buffer
   -- "equal .. residues everywhere": the status wrappers, that of a Read of b too
-  pub statuses : isStatus r ≡ true → r .buffer ≡ r′ .buffer
+  pub statuses : isStatus (handed r .bytes) ≡ true → r .buffer ≡ r′ .buffer
   -- "equal blocks in A": in every unit but b, after every event
   pub media : Apart us b (r .medium) (r′ .medium)
   pub tables : r .units ≡ r′ .units

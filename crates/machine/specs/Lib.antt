@@ -9,6 +9,7 @@ pub mod Control
 pub mod Begin
 pub mod Bulk
 pub mod Machine
+pub mod Handed
 pub mod Tally
 pub mod Claim
 pub mod Beside
@@ -20,4 +21,6 @@ pub mod RefusedBlock
 pub mod Switch
 pub mod SeveralUnits
 pub mod Isolation
+pub mod Ledger
 pub mod Witness
+pub mod LedgerWitness

@@ -123,8 +123,8 @@ isAck (Refused r) = false
 unfoldable pub noted : Log → Event → Answer → Log
 noted l e a = if isAck a then heeded l e else l
 
--- An observer over a list of events and the answers to them.
-unfoldable pub observed : {L : Type 0} → (L → Event → Answer → L) → L → List Event → List Answer → L
+-- An observer over a list of events and what it is told of each: its answer, or that and more.
+unfoldable pub observed : {L A : Type 0} → (L → Event → A → L) → L → List Event → List A → L
 observed f l [] said = l
 observed f l (e ∷ es) [] = l
 observed f l (e ∷ es) (a ∷ said) = observed f (f l e a) es said
