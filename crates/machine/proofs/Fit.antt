@@ -2,16 +2,18 @@
 use Prim.Native.Nat.{ℕ, _+_, _*_, _≤_, _<_}
 use mathlib.Core.Path.{_≡_, subst}
 use mathlib.Core.Bool.{true}
+use native.Mathlib.Omega.{arith}
 use lib.ListN.{length}
 use borrow.Author.Tests.{leb-true, ltb-true}
 use Rattle.wire.proofs.Cases.{both, and-true}
 use Rattle.machine.specs.declared.record.Stage.{Stage}
-use Rattle.machine.specs.declared.record.Stage.the-variants.{DataOut}
+use Rattle.machine.specs.declared.record.Stage.the-variants.{Ready, DataOut, DataIn, ReplyIn, StatusDue}
 use Rattle.machine.specs.declared.record.Task.{Task}
 use Rattle.machine.specs.Units.{Table, unitAt, asMade, switchesFit, laidOut, mediumFits}
-use Rattle.machine.specs.Fits.{numberFits, addressFits, idleFits, lockFits, outFits, stageFits, taskFits, fits}
+use Rattle.machine.specs.Fits.{numberFits, addressFits, idleFits, lockFits, outFits, inFits, stageFits, taskFits, fits}
 use Rattle.machine.specs.World.{World}
 use Rattle.machine.specs.Machine.{fitting}
+use Rattle.machine.specs.Halts.{due}
 use Rattle.machine.proofs.Tables.{same-length, same-blocks, unit-within}
 
 pub record Fit (w : World) : Type 0 where
@@ -46,10 +48,22 @@ pub lun-fits : (us : Table) (t : Task) → taskFits us t ≡ true → t .lun < l
 unfolding taskFits
 lun-fits us t f = ltb-true _ _ (both _ _ f .0)
 
+-- no more is due than the residue
+stage-due : (blocks : ℕ) (g : Stage) (a r : ℕ) → stageFits blocks g a r ≡ true → due g ≤ r
+unfolding due stageFits outFits inFits
+stage-due blocks Ready a r e = omega arith
+stage-due blocks (DataOut block left held) a r e = leb-true _ _ (both _ _ (both _ _ (both _ _ (both _ _ e .1) .1) .1) .0)
+stage-due blocks (DataIn place left) a r e = leb-true _ _ (both _ _ (both _ _ e .1) .0)
+stage-due blocks (ReplyIn reply place left) a r e = leb-true _ _ (both _ _ (both _ _ e .1) .0)
+stage-due blocks (StatusDue status) a r e = omega arith
+
 module _ (us : Table) (t : Task) (f : taskFits us t ≡ true) (g : Stage) (e : t .stage ≡ g) where
   pub stage-fits : stageFits (unitAt us (t .lun) .blocks) g (t .announced) (t .residue) ≡ true
   unfolding taskFits
   stage-fits = subst (λ (x : Stage). stageFits (unitAt us (t .lun) .blocks) x (t .announced) (t .residue) ≡ true) e (both _ _ f .1)
+
+  pub due-fits : due g ≤ t .residue
+  due-fits = stage-due (unitAt us (t .lun) .blocks) g (t .announced) (t .residue) stage-fits
 
 -- ---- the table counts by its parts alone
 

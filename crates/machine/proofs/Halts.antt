@@ -8,7 +8,7 @@ use lib.Dec.{leb, ltb, eqb}
 use lib.ListN.{length}
 use borrow.Author.Tests.{leb-true, leb-false, ltb-true, ltb-false, eqb-true, lt-ltb, le-ltb, eq-eqb}
 use Rattle.wire.specs.Choice.{if_then_else_}
-use Rattle.wire.proofs.Cases.{both, by-if, if-true, if-false}
+use Rattle.wire.proofs.Cases.{by-if, if-true, if-false}
 use Rattle.scsi.specs.declared.command.Plan.{Plan}
 use Rattle.scsi.specs.declared.command.Plan.the-variants.{Failed, Nothing, Reply, Read, Write}
 use Rattle.bot.specs.declared.csw.Status.the-variants.{Passed}
@@ -26,12 +26,11 @@ use Rattle.machine.specs.declared.record.Device.{Device}
 use Rattle.machine.specs.declared.ask.Source.{Source}
 use Rattle.machine.specs.declared.ask.Asked.{Asked}
 use Rattle.machine.specs.Record.{moved}
-use Rattle.machine.specs.Fits.{stageFits, outFits, inFits}
 use Rattle.machine.specs.World.{World, Out, UnitOut, inUnit}
 use Rattle.machine.specs.Begin.{hasOf, dataStage, firstStage, staged, begunBy, begun}
 use Rattle.machine.specs.Bulk.{onward, haltAtEnd, nextOut, storedState, storedBlock, gatheredState, gathered, onData, outStage, packetOut, nextIn, handedState, nextPacket, askStage, ask, deliver, packetIn}
 use Rattle.machine.specs.Halts.{due, residueAtEnd, moves, isSending, isTaking, isStatusDue, GoesOn, HaltAfterData}
-use Rattle.machine.proofs.Fit.{Fit, fit-of, stage-fits}
+use Rattle.machine.proofs.Fit.{Fit, fit-of, due-fits}
 use Rattle.machine.proofs.Reach.{case-follows}
 
 -- ---- at the wrapper
@@ -65,15 +64,6 @@ by-case p u a c (all-in l) q = after _ a (amount (hasOf p)) ∙ over a (amount (
 by-case p u a c (all-out l) q = after _ a (amount (hasOf p)) ∙ over a (amount (hasOf p)) ∙ ap (λ (n : ℕ). ltb 0 (a - n)) (sym (data-due p u))
 
 -- ---- a packet of data
-
--- number 10: no more is due than the residue
-due-fits : (blocks : ℕ) (g : Stage) (a r : ℕ) → stageFits blocks g a r ≡ true → due g ≤ r
-unfolding due stageFits outFits inFits
-due-fits blocks Ready a r e = omega arith
-due-fits blocks (DataOut block left held) a r e = leb-true _ _ (both _ _ (both _ _ (both _ _ (both _ _ e .1) .1) .1) .0)
-due-fits blocks (DataIn place left) a r e = leb-true _ _ (both _ _ (both _ _ e .1) .0)
-due-fits blocks (ReplyIn reply place left) a r e = leb-true _ _ (both _ _ (both _ _ e .1) .0)
-due-fits blocks (StatusDue status) a r e = omega arith
 
 -- the last of the data halts a pipe that was not halted exactly if some of the announced length is left
 at-end : (r : ℕ) (before : Bool) → before ≡ false → haltAtEnd true r before ≡ ltb 0 r
@@ -126,7 +116,7 @@ module _ (w : World) (f : Fit w) where
   s = w .dev .state
 
   enough : due (s .link .task .stage) ≤ s .link .task .residue
-  enough = due-fits _ _ _ _ (stage-fits (w .units) (s .link .task) (f .task) _ refl)
+  enough = due-fits (w .units) (s .link .task) (f .task) _ refl
 
   abbrev Sent : List ℕ → Asked → Type 0
   Sent b a = GoesOn (s .link .task) (deliver a w b .world .dev .state .link .task) (deliver a w b .world .dev .state .link .haltin)

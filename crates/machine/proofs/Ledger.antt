@@ -36,7 +36,7 @@ use Rattle.machine.specs.declared.answer.Answer.the-variants.{Data, Ack,
 use Rattle.machine.specs.Answer.{countOf}
 use Rattle.machine.specs.Units.{blockSize, unitAt, partOf, withPart}
 use Rattle.machine.specs.Record.{task, noTask, fresh, withHalts, droppedState, withAddress, moved}
-use Rattle.machine.specs.Fits.{outFits, inFits, stageFits}
+use Rattle.machine.specs.Fits.{inFits, stageFits}
 use Rattle.machine.specs.World.{World, world, inState, dropped, Out, out, sends, UnitOut, inUnit}
 use Rattle.machine.specs.Wrapper.{wrapperOf}
 use Rattle.machine.specs.Control.{reset}
@@ -47,12 +47,13 @@ use Rattle.machine.specs.Handed.{handed, isStatus}
 use Rattle.machine.specs.Tally.{Making, Block, Tally, idle, writing, Log, turned, taken, heeded, isAck, noted, observed}
 use Rattle.machine.specs.Claim.{born, lived, isDrop, ends}
 use Rattle.machine.specs.Beside.{isQuiet}
+use Rattle.machine.specs.Halts.{due}
 use Rattle.machine.specs.Ledger.{Command, Status, commandOf, statusOf, arrivedWith, Book, book, counting, tookPacket, gavePacket, entered, Account, booked, opened, ledger, Paid, Balanced, IsBytes, AllBytes, Ledger}
 use Rattle.machine.proofs.Judge.{Passed as Checked, judge, fit-passed, in-medium, in-room}
 use Rattle.machine.proofs.Requests.{Did, stalls, acks, halts, addresses, configures, resets, performs}
 use Rattle.machine.proofs.Requests as requests
 use Rattle.machine.proofs.Making.{born-fresh}
-use Rattle.machine.proofs.Fit.{Fit, fit-of, lun-fits, stage-fits}
+use Rattle.machine.proofs.Fit.{Fit, fit-of, lun-fits, stage-fits, due-fits}
 use Rattle.machine.proofs.Reach.{planned}
 use Rattle.machine.proofs.Apart.{length-own}
 use Rattle.machine.proofs.Sim.{Gathers, Together, rests, gathers, Sim, fills, taken-short, taken-half, taken-full, at-rest, simulates}
@@ -88,6 +89,9 @@ module _ (k : Making) (a : Account) (w : World) (s : Sim k (a .log) w) (h : Kept
 
   abbrev t₀ : Task
   t₀ = w .dev .state .link .task
+
+  at : (g : Stage) → t₀ .stage ≡ g → Keeps g (x .commands) (x .statuses) t₀
+  at g e = subst (λ (y : Stage). Keeps y (x .commands) (x .statuses) t₀) e (h .stage)
 
   -- the book comes to this
   comes-to : (e : Event) (o : Out) (y : Book) → booked a e (handed (seen o)) .book ≡ y → Kept y (o .world .dev .state .link .task) → Enters a e o
@@ -162,11 +166,11 @@ module _ (k : Making) (a : Account) (w : World) (s : Sim k (a .log) w) (h : Kept
         (counted (min 64 left) (x .commands) (x .statuses) (x .stray) t₀ (nextIn left more) (h .owned) (omega arith) c
         (λ cs g. after-in left more cs (x .statuses) _ g (λ l. f cs _ l g)))))
 
-    packets : (y : Source) (left : ℕ) (more : Stage) → ((left ≡ 0 → ⊥) → length (bytesOf y w) ≡ min 64 left) → ((left ≡ 0 → ⊥) → isStatus (bytesOf y w) ≡ false) → left ≤ t₀ .residue → Open (x .commands) (x .statuses) t₀
+    packets : (y : Source) (left : ℕ) (more : Stage) → length (bytesOf y w) ≡ min 64 left → ((left ≡ 0 → ⊥) → isStatus (bytesOf y w) ≡ false) → left ≤ t₀ .residue → Open (x .commands) (x .statuses) t₀
         → ((cs : List Command) (t : Task) → 64 < left → Open cs (x .statuses) t → Keeps more cs (x .statuses) t) → Asks (nextPacket (w .dev .state) left y more)
     unfolding nextPacket deliver isAck
     packets y left more n z r c f =
-        by-if Asks (eqb left 0) _ _ (λ _. no-packet Nak refl refl) (λ e. packet (bytesOf y w) left more (n (eqb-false left 0 e)) (z (eqb-false left 0 e)) r c f)
+        by-if Asks (eqb left 0) _ _ (λ _. no-packet Nak refl refl) (λ e. packet (bytesOf y w) left more n (z (eqb-false left 0 e)) r c f)
 
     -- a status wrapper
     settles : (y : code.Status) (v : State) → v .link .task ≡ noTask → Open (x .commands) (x .statuses) t₀ → Asks (Packet (source.Status (cswOf t₀ y)) v)
@@ -183,33 +187,28 @@ module _ (k : Making) (a : Account) (w : World) (s : Sim k (a .log) w) (h : Kept
     rested Failed = refl
     rested PhaseError = refl
 
-    at : (g : Stage) → t₀ .stage ≡ g → Keeps g (x .commands) (x .statuses) t₀
-    at g e = subst (λ (y : Stage). Keeps y (x .commands) (x .statuses) t₀) e (h .stage)
-
     fit : Fit w
     fit = fit-of w (fit-passed (bulkIn b) ok)
 
     ins : (g : Stage) → t₀ .stage ≡ g → Asks (askStage g (w .dev .state))
-    unfolding askStage deliver isAck bytesOf stageFits inFits
+    unfolding askStage deliver isAck bytesOf stageFits inFits due
     ins Ready e = no-packet Nak refl refl
     ins (DataOut block left held) e = no-packet Nak refl refl
     ins (DataIn place left) e =
-        let r = both _ _ (stage-fits (w .units) t₀ (fit .task) (DataIn place left) e) in
-        let room : place + left ≤ blockSize * unitAt (w .units) (t₀ .lun) .blocks = leb-true _ _ (r .0) in
+        let room : place + left ≤ blockSize * unitAt (w .units) (t₀ .lun) .blocks = leb-true _ _ (both _ _ (stage-fits (w .units) t₀ (fit .task) (DataIn place left) e) .0) in
         let z = length-own (w .units) (w .medium) (t₀ .lun) (fit .laid) (in-medium b b ok) (lun-fits (w .units) t₀ (fit .task)) in
         let c = at (DataIn place left) e in
         let whole = c .1 in
         let n : length (take (min 64 left) (drop place (partOf (unitAt (w .units) (t₀ .lun)) (w .medium)))) ≡ min 64 left = length-part place (min 64 left) _ (omega arith) in
-        packets _ left _ (λ _. n) (λ o. whole-packet _ (n ∙ omega arith)) (leb-true _ _ (both _ _ (r .1) .0)) (c .0) (λ cs t m g. (g, omega arith))
+        packets _ left _ n (λ o. whole-packet _ (n ∙ omega arith)) (due-fits (w .units) t₀ (fit .task) (DataIn place left) e) (c .0) (λ cs t m g. (g, omega arith))
     ins (ReplyIn y place left) e =
-        let r = both _ _ (stage-fits (w .units) t₀ (fit .task) (ReplyIn y place left) e) in
         let number = w .dev .identity .number in
-        let room : place + left ≤ length (replyData number y) = rw (sizes number y) (leb-true _ _ (r .0)) in
+        let room : place + left ≤ length (replyData number y) = rw (sizes number y) (leb-true _ _ (both _ _ (stage-fits (w .units) t₀ (fit .task) (ReplyIn y place left) e) .0)) in
         let short = reply-short number y in
         let c = at (ReplyIn y place left) e in
-        packets _ left _ (λ _. length-part place (min 64 left) (replyData number y) (omega arith))
+        packets _ left _ (length-part place (min 64 left) (replyData number y) (omega arith))
         (λ _. ap (λ (j : ℕ). isStatus (take (min 64 left) (drop j (replyData number y)))) (c .1) ∙ reply-packet number (min 64 left) y)
-        (leb-true _ _ (both _ _ (r .1) .0)) (c .0) (λ cs t m g. absurd (omega arith))
+        (due-fits (w .units) t₀ (fit .task) (ReplyIn y place left) e) (c .0) (λ cs t m g. absurd (omega arith))
     ins (StatusDue y) e = settles y _ (rested y) (at (StatusDue y) e)
 
   -- ---- a bulk-out packet
@@ -282,15 +281,14 @@ module _ (k : Making) (a : Account) (w : World) (s : Sim k (a .log) w) (h : Kept
     datas block left held v t i e (gathers {held = y} g) c r = data′ (i ∙ ap (λ (n : ℕ). writing n block left y) e) g c r
 
     outs : Below 256 p → (g : Stage) → t₀ .stage ≡ g → Takes (outStage g w p)
-    unfolding outStage isAck stageFits outFits
+    unfolding outStage isAck due
     outs z Ready e =
         wrappers z (wrapperOf (w .units) p) refl (at-rest (subst (λ (y : Stage). Together (l .tally) y (t₀ .lun) (w .dev .part)) e (s .tally)) tt .0)
-        (subst (λ (y : Stage). Keeps y (x .commands) (x .statuses) t₀) e (h .stage))
+        (at _ e)
     outs z (DataOut block left held) e =
-        let r = both _ _ (stage-fits (w .units) t₀ (fit-of w (fit-passed (bulkOut p) ok) .task) (DataOut block left held) e) in
         by-if Takes (eqb left 0) _ _ (λ _. ignored Nak refl refl)
         (λ _. datas block left held (t₀ .lun) (l .tally) refl refl (subst (λ (y : Stage). Together (l .tally) y (t₀ .lun) (w .dev .part)) e (s .tally))
-        (subst (λ (y : Stage). Keeps y (x .commands) (x .statuses) t₀) e (h .stage)) (leb-true _ _ (both _ _ (both _ _ (both _ _ (r .1) .1) .1) .0)))
+        (at _ e) (due-fits (w .units) t₀ (fit-of w (fit-passed (bulkOut p) ok) .task) (DataOut block left held) e))
     outs z (DataIn place left) e = ignored Nak refl refl
     outs z (ReplyIn y place left) e = ignored Nak refl refl
     outs z (StatusDue y) e = ignored Nak refl refl
