@@ -3,7 +3,7 @@ import os
 import re
 import subprocess
 
-from . import bench, census, decode, judge, log, worked
+from . import bench, census, decode, judge, ledger, log, worked
 
 # What a kernel prints of a disk that it does not like. A deliberate failure through sg does not print it.
 COMPLAINTS = re.compile(r"I/O error|FAILED Result|unable to enumerate|device descriptor read|not accepting|offline|timing out|Sense Key")
@@ -18,6 +18,10 @@ def look(folder, results, peer, controller, wrong):
     results.check("rules-agree-with-recordings", not differences, differences[0] if differences else "%d events" % count)
     events = os.path.join(folder, "events.log")
     decode.write(log.read(events), os.path.join(folder, "decoded.log"))
+    ledgers = ledger.kept(log.read(events))
+    ledger.write(ledgers, os.path.join(folder, "ledger.txt"))
+    results.check("ledger-in-balance", *ledger.balance(ledgers))
+    results.check("seen-in-the-ledger", *ledger.census(ledgers, controller == "xhci"))
     count, differences = judge.differences(folder)
     results.check("answers-of-document-01", not differences, differences[0] if differences else "%d events" % count)
     results.check("seen-on-the-bus", *census.verdict(log.read(events), controller == "xhci"))

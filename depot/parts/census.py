@@ -25,7 +25,7 @@ LEAST = {"devices": 11, "bus resets": 20, "failed": 60, "phase errors": 4, "stal
          "Read refused at 4294967280": 1, "Read refused at 4294967295": 1, "Verify refused at 4294967295": 1,
          "senses with a block": 33, "failures' senses without": 10,
          "highest unit 3": 3, "commands for unit 1": 100, "commands for unit 2": 100, "commands for unit 3": 100, "turned, of units 1 to 3": 5}
-LEAST_WITH_PROBE = {"failed": 412, "phase errors": 10, "lengths with byte 3": 9, "naks": 3, "taken back": 2, "mass storage resets": 38,
+LEAST_WITH_PROBE = {"failed": 412, "phase errors": 10, "lengths with byte 3": 9, "naks": 9, "taken back": 8, "mass storage resets": 40,
                     "closed": 21, "opened": 18, "turned in a Write": 6, "senses of the switch": 24, "Mode Senses with 80": 20,
                     "page 00 of 0 bytes": 1, "page 80 of 0 bytes": 2, "page 83 of 0 bytes": 2, "refused pages of 0 bytes": 254,
                     "Read refused at 128": 41, "Write refused at 128": 2, "Verify refused at 128": 2, "Read refused at 129": 1,

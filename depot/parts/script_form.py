@@ -1,15 +1,10 @@
 """A log in the text form of the repository's recordings, which tools/script.py defines and reads."""
-import os
 import struct
-import sys
 
 from . import log
 from .decode import is_cbw, is_csw
-from .places import DEPOT
 from .rules import allocation_length, control_byte
-
-sys.path.append(os.path.join(os.path.dirname(DEPOT), "tools"))
-import script
+from .tools import script
 
 ENDPOINTS = {value: name for name, value in script.ENDPOINTS.items()}
 DESCRIPTORS = {value: name for name, value in script.NAMES.items()}

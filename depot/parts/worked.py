@@ -5,6 +5,7 @@ from . import script_form
 from .blocks import Blocks
 from .places import DEPOT
 from .rules import Collector
+from .tools import script
 
 RECORDINGS = os.path.join(os.path.dirname(DEPOT), "recordings")
 RECORDED = {"linux.txt"}  # a run of the depot, whose answers are those of parts/rules.py itself
@@ -18,8 +19,8 @@ def differences():
             continue
         with open(os.path.join(RECORDINGS, name), encoding="utf-8") as f:
             text = f.read()
-        events, answers = script_form.script.read(text)
-        sizes = script_form.script.units(text)
+        events, answers = script.read(text)
+        sizes = script.units(text)
         device = Collector(42, 0, 0, 0, Blocks(sum(sizes)), sizes)
         given = script_form.answers([device.event(kind, body) for kind, body in events])
         count += len(events)

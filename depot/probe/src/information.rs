@@ -15,14 +15,15 @@ const INVALID_FIELD: u8 = 0x24;
 
 pub type Step = Result<(), String>;
 
-/// Whatever drops the command. After the port's reset the kernel sets the configuration again.
-pub const DROPS: [fn(&Probe) -> Step; 5] = [
+/// What drops the command. After the port's reset the kernel sets the configuration again.
+pub const RESETS: [fn(&Probe) -> Step; 3] = [
     |probe| passes("Mass Storage Reset", mass_storage_reset(&probe.device)),
     |probe| passes("Set Configuration", probe.device.control(0x00, 0x09, 1, 0, 0).map(|_| ())),
-    Probe::phase_error,
-    Probe::broken_wrapper,
     |probe| passes("port reset", probe.device.reset_without_driver()),
 ];
+/// The same, and what only a drop gets the device out of.
+pub const DROPS: [fn(&Probe) -> Step; 5] =
+    [RESETS[0], RESETS[1], Probe::phase_error, Probe::broken_wrapper, RESETS[2]];
 
 /// Request Sense's bytes after a range failure: VALID in byte 0, and INFORMATION.
 pub fn out_of_range(block: u32) -> [u8; SENSE] {

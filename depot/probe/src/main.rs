@@ -6,6 +6,7 @@
 
 mod bot;
 mod information;
+mod ledger;
 mod pages;
 mod switch;
 mod units;
@@ -185,7 +186,7 @@ impl Probe {
 }
 
 /// What is sent to a collector of one unit, of 128 blocks.
-const TRANSPORT: [(&str, Check); 26] = [
+const TRANSPORT: [(&str, Check); 27] = [
     ("early-ask", Probe::early_ask),
     ("waiting-ask", Probe::waiting_ask),
     ("early-wrapper", Probe::early_wrapper),
@@ -205,6 +206,7 @@ const TRANSPORT: [(&str, Check); 26] = [
     ("other-unit-locks", Probe::other_unit),
     ("reset-in-read", Probe::reset_in_read),
     ("reset-in-write", Probe::reset_in_write),
+    ("no-status-after-drops", Probe::no_status_after_drops),
     ("short-packet-in-write", Probe::short_packet),
     ("switch-in-mode-sense", Probe::switch_in_mode_sense),
     ("switch-in-refused-write", Probe::switch_in_refused_write),

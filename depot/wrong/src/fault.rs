@@ -3,6 +3,7 @@
 
 mod information;
 mod kind;
+mod ledger;
 mod pages;
 mod switch;
 mod units;
@@ -169,6 +170,7 @@ pub fn control(
         _ => {
             switch::control(units, setup);
             units::control(units, senses, setup, buffer);
+            ledger::control(before, record, setup);
         }
     }
     answer
@@ -209,6 +211,7 @@ pub fn bulk_out(record: &mut Record, units: &mut [Unit], packet: &[u8]) {
             information::begin(record, units, packet);
             switch::begin(record, units, packet);
             units::begin(record, units);
+            ledger::begin(packet);
         }
     }
 }
@@ -243,6 +246,7 @@ pub fn bulk_in(
             information::send(before, units, &mut buffer[..answer.count]);
             switch::send(before, units, &mut buffer[..answer.count]);
             units::send(before, units, medium, &mut buffer[..answer.count]);
+            ledger::send(before, &mut buffer[..answer.count]);
         }
     }
     answer

@@ -103,9 +103,17 @@ pub enum Fault {
     SwitchOfUnit0,
     /// A turn turns the switches of all units.
     SwitchOfAll,
+    /// Residue 0 after a Write of fewer blocks than announced (document 02, A13).
+    ResidueOut,
+    /// Residue 0 after a Write whose wrapper is a phase error: no data moved, so that nothing is thought to be left over.
+    ResiduePhase,
+    /// The same Write's status has the tag of the command before.
+    TagPhase,
+    /// A Mass Storage Reset does not drop a status that is due.
+    StatusKept,
 }
 
-const NAMES: [(&str, Fault); 50] = [
+const NAMES: [(&str, Fault); 54] = [
     ("none", Fault::None),
     ("digits", Fault::Digits),
     ("capacity", Fault::Capacity),
@@ -156,6 +164,10 @@ const NAMES: [(&str, Fault); 50] = [
     ("sense-dropped", Fault::SenseDropped),
     ("switch-of-unit-0", Fault::SwitchOfUnit0),
     ("switch-of-all", Fault::SwitchOfAll),
+    ("residue-out", Fault::ResidueOut),
+    ("residue-phase", Fault::ResiduePhase),
+    ("tag-phase", Fault::TagPhase),
+    ("status-kept", Fault::StatusKept),
 ];
 
 /// The fault that the environment names.
