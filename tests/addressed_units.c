@@ -104,7 +104,7 @@ static void told_of_units(void)
 /* A command's unit is in the record until its status is sent or it is dropped; then it is 0. */
 static void unit_in_hand(void)
 {
-    static const char *const drops[] = {MASS_STORAGE_RESET, SET_CONFIGURATION, "\x00\x09\x00\x00\x00\x00\x00\x00"};
+    static const char *const drops[] = {MASS_STORAGE_RESET, SET_CONFIGURATION, SET_NO_CONFIGURATION};
 
     for (uint8_t unit = 0; unit < UNITS; unit++)
         for (unsigned stage = COLLECTOR_STAGE_DATA_OUT; stage < STAGES; stage++)
@@ -121,7 +121,7 @@ static void unit_in_hand(void)
                 EQUAL(board.record.unit, unit);
                 EQUAL(drop < 3 ? board_control(&board, drops[drop]) : board_reset(&board), COLLECTOR_ACK);
                 EQUAL(board.record.unit, 0);
-                EQUAL(board_control(&board, "\x00\x09\x00\x00\x00\x00\x00\x00"), COLLECTOR_ACK);
+                EQUAL(board_control(&board, SET_NO_CONFIGURATION), COLLECTOR_ACK);
                 CHECK(same_board(&board, &fresh));
             }
 }

@@ -62,6 +62,7 @@ void expect_unit_sense(const collector_unit *unit, uint8_t key, uint8_t asc, uin
 void expect_status(bench *bench, const char *residue, uint8_t status);
 
 #define SET_CONFIGURATION "\x00\x09\x01\x00\x00\x00\x00\x00"
+#define SET_NO_CONFIGURATION "\x00\x09\x00\x00\x00\x00\x00\x00"
 #define CLEAR_IN "\x02\x01\x00\x00\x81\x00\x00\x00"
 #define CLEAR_OUT "\x02\x01\x00\x00\x02\x00\x00\x00"
 #define SET_IN "\x02\x03\x00\x00\x81\x00\x00\x00"

@@ -3,6 +3,7 @@
  * Exit status 1 at the first failure.
  */
 #include "bench.h"
+#include "ledger.h"
 #include "medium_size.h"
 #include "product_pages.h"
 #include "records.h"
@@ -366,6 +367,8 @@ int main(void)
     switches_of_units();
     histories_apart_in_one_unit();
     tables_kept();
+    worked_ledger();
+    random_ledgers();
     printf("interface: %u checks passed\n", checks);
     return 0;
 }

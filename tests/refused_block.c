@@ -166,7 +166,7 @@ static void gone(void)
         {"\x28\x00\x01\x02\x03\x04\x00\x00\x00\x04", 0x05, 0x24, 0},
         {"\x2A\x00\x00\x00\x00\x03\x00\x00\x02\x00", 0x05, 0x21, BLOCKS},
     };
-    static const char *const drops[] = {MASS_STORAGE_RESET, SET_CONFIGURATION, "\x00\x09\x00\x00\x00\x00\x00\x00"};
+    static const char *const drops[] = {MASS_STORAGE_RESET, SET_CONFIGURATION, SET_NO_CONFIGURATION};
     bench bench;
 
     /* Nothing is announced: a command that has data meets a phase error, which leaves sense and number. */

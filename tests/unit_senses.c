@@ -83,7 +83,7 @@ static void apart(size_t count, unsigned mask)
 /* A drop, from 0 on; any number past the third is a bus reset. */
 static uint32_t drop(board *board, int which)
 {
-    static const char *const setups[] = {MASS_STORAGE_RESET, SET_CONFIGURATION, "\x00\x09\x00\x00\x00\x00\x00\x00"};
+    static const char *const setups[] = {MASS_STORAGE_RESET, SET_CONFIGURATION, SET_NO_CONFIGURATION};
 
     return which < 3 ? board_control(board, setups[which]) : board_reset(board);
 }

@@ -57,7 +57,7 @@ static uint32_t event_of(bench *bench, unsigned event)
         SET_IN,
         SET_OUT,
         GET_MAX_LUN,
-        "\x00\x09\x00\x00\x00\x00\x00\x00",     /* Set Configuration 0 */
+        SET_NO_CONFIGURATION,
         "\x00\x09\x02\x00\x00\x00\x00\x00",     /* .. 2, which stalls */
         "\x00\x05\x05\x00\x00\x00\x00\x00",     /* Set Address */
         "\x80\x08\x00\x00\x00\x00\x01\x00",     /* Get Configuration */

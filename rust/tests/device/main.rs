@@ -1,4 +1,5 @@
-//! The ordinary device against document 01's worked examples and document 02's landed requests.
+//! The ordinary device against document 01's worked examples and document 02's landed requests, and the ledger against
+//! histories worked out by hand.
 
 mod bench;
 mod bench_sheet;
@@ -6,7 +7,11 @@ mod block_place;
 mod commands;
 mod control_byte;
 mod descriptors;
+mod history;
 mod inquiry_length;
+mod ledger;
+mod ledger_faults;
+mod ledger_writes;
 mod lent;
 mod medium_size;
 mod page_records;

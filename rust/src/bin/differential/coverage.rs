@@ -4,6 +4,8 @@ use crate::allocation_length::AllocationLengths;
 use crate::block_place::BlockPlaces;
 use crate::control_byte::{self, ControlBytes};
 use crate::event::{Event, KINDS};
+use crate::ledger_drop::LedgerDrops;
+use crate::ledger_status::LedgerStatuses;
 use crate::medium_size::MediumSizes;
 use crate::page_field::PageFields;
 use crate::pair::Played;
@@ -77,6 +79,10 @@ pub struct Coverage {
     unit_writes: UnitWrites,
     unit_switches: UnitSwitches,
     unit_media: UnitMedia,
+    /// The events under account.
+    pub accounted: u64,
+    ledger_drops: LedgerDrops,
+    ledger_statuses: LedgerStatuses,
     cases: [u64; 14],
     statuses: [u64; 3],
 }
@@ -118,6 +124,13 @@ impl Coverage {
             }
             _ => {}
         }
+    }
+
+    /// Notes an event that was booked.
+    pub fn note_account(&mut self, before: &State, event: &Event, played: &Played) {
+        self.accounted += 1;
+        self.ledger_drops.note(before, event, played);
+        self.ledger_statuses.note(before, event, played);
     }
 
     fn note_wrapper(&mut self, before: &State, packet: &[u8]) {
@@ -181,6 +194,8 @@ impl Coverage {
         self.unit_writes.print();
         self.unit_switches.print();
         self.unit_media.print();
+        self.ledger_drops.print();
+        self.ledger_statuses.print();
         println!("\nthe thirteen meetings of host and device");
         for case in Case::ALL {
             println!("  {:>2} {:<18}{:>9}", case as usize, format!("{case:?}"), self.cases[case as usize]);
@@ -228,6 +243,8 @@ impl Coverage {
         missing.extend(self.unit_writes.missing());
         missing.extend(self.unit_switches.missing());
         missing.extend(self.unit_media.missing());
+        missing.extend(self.ledger_drops.missing());
+        missing.extend(self.ledger_statuses.missing());
         missing
     }
 }

@@ -27,7 +27,7 @@ pub fn next(random: &mut Random, state: &State, own: &Own) -> Event {
     if switch::is_moved(random, state) {
         return switch::moved(random, state);
     }
-    if (state.any_closed() || state.senses() > 1) && random.one_in(60) {
+    if is_cut(random, state) || (state.any_closed() || state.senses() > 1) && random.one_in(60) {
         return reset(random);
     }
     if random.one_in(10) {
@@ -103,6 +103,18 @@ fn proceed(random: &mut Random, state: &State, own: &Own) -> Event {
         stage::READY | stage::DATA_OUT => send(packet(random, state, own)),
         _ if state.halt_in() && met => control(random, requests::CLEAR_IN),
         _ => ask(random),
+    }
+}
+
+/// Whether a command is cut in the middle of its data (document 02, A13): the rarer the state, the more often.
+fn is_cut(random: &mut Random, state: &State) -> bool {
+    let moved = state.residue < state.announced;
+    match state.stage {
+        stage::DATA_OUT if moved => random.one_in(10),
+        stage::DATA_OUT => state.value > 0 && random.one_in(60),
+        stage::DATA_IN => moved && random.one_in(60),
+        stage::READY => false,
+        _ => !state.status_due() && random.one_in(25),
     }
 }
 

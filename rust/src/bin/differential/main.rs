@@ -1,9 +1,11 @@
 //! The differential test: random events are played on the ordinary and on the proved device, and after each event
 //! the answer, the whole buffer, the whole medium, the whole record and the whole table must be the same. Of a medium of more than 4,096
-//! blocks the blocks in use must be the same after each event, and all at the end of its trial.
+//! blocks the blocks in use must be the same after each event, and all at the end of its trial. An accountant who sees
+//! the events and answers alone keeps the ledger, which must be in balance after each event.
 //!
 //! `cargo run --release --bin differential -- [--seed N] [--events N] [--seconds N]`
 
+mod account;
 mod allocation_length;
 mod block_place;
 mod commands;
@@ -16,6 +18,8 @@ mod host;
 mod inquiry;
 mod invent;
 mod large_media;
+mod ledger_drop;
+mod ledger_status;
 mod media;
 mod medium_size;
 mod own;
@@ -96,30 +100,36 @@ impl Run {
     /// Plays one trial; the error tells a difference.
     fn trial(&mut self, random: &mut Random) -> Result<(), String> {
         let mut trial = Trial::new(random);
-        let mut pair = trial.pair(&mut self.large);
+        let mut audited = trial.begin(&mut self.large);
         loop {
             let step = &trial.events[trial.events.len() - 1];
-            let before = pair.state_for(step);
-            match pair.play(step) {
-                Ok(played) if step.other.is_some() => self.coverage.note_other(&step.event, &played),
-                Ok(played) => self.coverage.note(&before, &step.event, &played),
-                Err(_) => return Err(trial.report(None)),
+            let before = audited.pair.state_for(step);
+            let Ok(played) = audited.play(step) else {
+                return Err(trial.report(None));
+            };
+            if step.other.is_some() {
+                self.coverage.note_other(&step.event, &played);
+            } else {
+                self.coverage.note(&before, &step.event, &played);
+            }
+            if audited.under_account() {
+                self.coverage.note_account(&before, &step.event, &played);
             }
             self.events += 1;
-            let state = pair.state();
+            let state = audited.pair.state();
             if trial.own.blocks() <= DAMAGED && self.damage.wants(&state, self.events) {
-                self.damage.small(random, &state, &trial.own, pair.medium())?;
+                self.damage.small(random, &state, &trial.own, audited.pair.medium())?;
             }
             if trial.events.len() > trial.length {
                 break;
             }
-            trial.events.push(host::step(random, &state, &trial.own));
+            trial.go_on(random, &state);
         }
-        if let Some(stray) = pair.stray() {
+        if let Some(stray) = audited.pair.stray() {
             return Err(trial.report(Some(stray)));
         }
         if trial.own.is_large() && Damage::wants_large(random, self.events) {
-            self.damage.large(random, &trial.own, &mut pair)?;
+            self.damage.large(random, &trial.own, &mut audited.pair)?;
         }
         Ok(())
     }
@@ -187,6 +197,7 @@ fn main() -> ExitCode {
     let (events, damaged) = (thousands(run.events), thousands(run.damage.events));
     match result {
         Ok(()) => {
+            println!("ledger: {} events under account, in balance", thousands(run.coverage.accounted));
             println!("and {damaged} events on damaged and invented records and tables");
             println!("differential: {events} events, no difference (seed {})", options.seed);
             ExitCode::SUCCESS

@@ -1,5 +1,6 @@
 //! A trial: a table of units, a medium, a making, and the events after it. It can be played again and shrunk.
 
+use crate::account::Audited;
 use crate::compare::show_table;
 use crate::event::{Event, Lent, Step};
 use crate::host;
@@ -14,6 +15,8 @@ use ordinary::record::Record;
 pub struct Trial {
     seed: u64,
     pub own: Own,
+    /// Whether each event is lent the own table, so that all of them are under account.
+    one_table: bool,
     pub length: usize,
     pub events: Vec<Step>,
     /// A block that is compared after each event although nothing asks for it.
@@ -34,10 +37,20 @@ impl Trial {
         Trial {
             seed: random.number(),
             own: Own::new(random, sizes),
+            one_table: random.one_in(2),
             length: length as usize,
             events: vec![Step::own(making)],
             stray: None,
         }
+    }
+
+    /// Adds the next event for a device in this state.
+    pub fn go_on(&mut self, random: &mut Random, state: &State) {
+        self.events.push(if self.one_table {
+            Step::own(host::next(random, state, &self.own))
+        } else {
+            host::step(random, state, &self.own)
+        });
     }
 
     /// The table is as a collector before left it: any senses and any switches, which the making overwrites.
@@ -47,8 +60,12 @@ impl Trial {
         State { record: Record::ZERO, units }
     }
 
-    /// Both devices before the making. A large medium is made ready in `media`.
-    pub fn pair<'a>(&self, media: &'a mut LargeMedia) -> Pair<'a> {
+    /// Both devices before the making, and the accountant. A large medium is made ready in `media`.
+    pub fn begin<'a>(&self, media: &'a mut LargeMedia) -> Audited<'a> {
+        Audited::new(self.pair(media), &self.own)
+    }
+
+    fn pair<'a>(&self, media: &'a mut LargeMedia) -> Pair<'a> {
         if self.own.is_large() {
             media.begin(&self.own, self.seed);
             self.stray.iter().for_each(|block| media.watch(*block));
@@ -62,8 +79,8 @@ impl Trial {
     /// difference anything may have been written.
     fn replay(&self, events: &[Step]) -> Option<(usize, String)> {
         let mut media = LargeMedia::default();
-        let mut pair = self.pair(&mut media);
-        let mut differs = |event| pair.play(event).err();
+        let mut audited = self.begin(&mut media);
+        let mut differs = |event| audited.play(event).err();
         events.iter().enumerate().find_map(|(at, event)| differs(event).map(|text| (at + 1, text)))
     }
 
