@@ -13,6 +13,7 @@ use Rattle.wire.specs.Slices.{Below}
 use Rattle.wire.proofs.Cases.{by-if, if-true, if-false, both, and-false}
 use Rattle.wire.proofs.Parts.{length-part}
 use Rattle.scsi.specs.Reply.{replyData}
+use Rattle.scsi.specs.declared.reply.Reply as replies
 use Rattle.scsi.proofs.Replies.{sizes, reply-short}
 use Rattle.bot.specs.Csw.{cswBytes}
 use Rattle.bot.specs.declared.cbw.Header.{Header}
@@ -190,6 +191,21 @@ module _ (k : Making) (a : Account) (w : World) (s : Sim k (a .log) w) (h : Kept
     fit : Fit w
     fit = fit-of w (fit-passed (bulkIn b) ok)
 
+    -- a reply is one packet, whoever's it is, and no status wrapper
+    module _ (y : replies.Reply) (place left : ℕ) (e : t₀ .stage ≡ ReplyIn y place left) where
+      reply-room : (number : ℕ) → place + left ≤ length (replyData number y)
+      unfolding stageFits inFits
+      reply-room number = rw (sizes number y) (leb-true _ _ (both _ _ (stage-fits (w .units) t₀ (fit .task) (ReplyIn y place left) e) .0))
+
+      reply-size : (number : ℕ) → length (take (min 64 left) (drop place (replyData number y))) ≡ min 64 left
+      reply-size number = let r = reply-room number in length-part place (min 64 left) (replyData number y) (omega arith)
+
+      reply-data : (number : ℕ) → isStatus (take (min 64 left) (drop place (replyData number y))) ≡ false
+      reply-data number = ap (λ (j : ℕ). isStatus (take (min 64 left) (drop j (replyData number y)))) (at _ e .1) ∙ reply-packet number (min 64 left) y
+
+      one-packet : 64 < left → ⊥
+      one-packet m = let r = reply-room 0 in let short = reply-short 0 y in omega arith
+
     ins : (g : Stage) → t₀ .stage ≡ g → Asks (askStage g (w .dev .state))
     unfolding askStage deliver isAck bytesOf stageFits inFits due
     ins Ready e = no-packet Nak refl refl
@@ -202,13 +218,8 @@ module _ (k : Making) (a : Account) (w : World) (s : Sim k (a .log) w) (h : Kept
         let n : length (take (min 64 left) (drop place (partOf (unitAt (w .units) (t₀ .lun)) (w .medium)))) ≡ min 64 left = length-part place (min 64 left) _ (omega arith) in
         packets _ left _ n (λ o. whole-packet _ (n ∙ omega arith)) (due-fits (w .units) t₀ (fit .task) (DataIn place left) e) (c .0) (λ cs t m g. (g, omega arith))
     ins (ReplyIn y place left) e =
-        let number = w .dev .identity .number in
-        let room : place + left ≤ length (replyData number y) = rw (sizes number y) (leb-true _ _ (both _ _ (stage-fits (w .units) t₀ (fit .task) (ReplyIn y place left) e) .0)) in
-        let short = reply-short number y in
-        let c = at (ReplyIn y place left) e in
-        packets _ left _ (length-part place (min 64 left) (replyData number y) (omega arith))
-        (λ _. ap (λ (j : ℕ). isStatus (take (min 64 left) (drop j (replyData number y)))) (c .1) ∙ reply-packet number (min 64 left) y)
-        (due-fits (w .units) t₀ (fit .task) (ReplyIn y place left) e) (c .0) (λ cs t m g. absurd (omega arith))
+        packets _ left _ (reply-size y place left e _) (λ _. reply-data y place left e _) (due-fits (w .units) t₀ (fit .task) (ReplyIn y place left) e) (at _ e .0)
+        (λ cs t m g. absurd (one-packet y place left e m))
     ins (StatusDue y) e = settles y _ (rested y) (at (StatusDue y) e)
 
   -- ---- a bulk-out packet
