@@ -12,6 +12,7 @@ pub mod Machine
 pub mod Handed
 pub mod Tally
 pub mod Claim
+pub mod Show
 pub mod Beside
 pub mod Halts
 pub mod Largest
@@ -22,5 +23,6 @@ pub mod Switch
 pub mod SeveralUnits
 pub mod Isolation
 pub mod Ledger
+pub mod EitherCall
 pub mod Witness
 pub mod LedgerWitness

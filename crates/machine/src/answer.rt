@@ -1,6 +1,6 @@
 // How an event or a making ends.
 pub enum Answer {
-    // The first `count` bytes of the lent buffer were written.
+    // The first `count` bytes of the lent buffer were written, or so many bytes are shown where they stand.
     Data { count: usize },
     Ack,
     Nak,

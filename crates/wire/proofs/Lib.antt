@@ -4,3 +4,4 @@ pub mod Parts
 pub mod Positional
 pub mod Masks
 pub mod Packets
+pub mod Same

@@ -33,6 +33,14 @@ startsWith [] s = true
 startsWith (x ∷ xs) [] = false
 startsWith (x ∷ xs) (y ∷ ys) = eqb y x and startsWith xs ys
 
+-- Whether two lists are the same.
+unfoldable pub same : List ℕ → List ℕ → Bool
+same r s = eqb (length r) (length s) and startsWith s r
+
+-- The n bytes from a place on, as a slice has them; none, where they do not all lie in s.
+unfoldable pub part : List ℕ → ℕ → ℕ → List ℕ
+part s at n = if leb (at + n) (length s) then take n (drop at s) else []
+
 -- Whether s fits into d from a place on.
 unfoldable pub fits : List ℕ → ℕ → List ℕ → Bool
 fits d at s = leb (at + length s) (length d)

@@ -1,7 +1,7 @@
 // Reading, comparing and copying slices of bytes.
 ghost use mathlib.Core.Path.{_≡_};
 ghost use Prim.Native.Nat.{_<_};
-ghost use Rattle.wire.specs.Slices.{byteAt, startsWith, fits, placed};
+ghost use Rattle.wire.specs.Slices.{byteAt, startsWith, same, part, fits, placed};
 
 // The byte at a place; 0 past the end.
 pub fn byte(s: &[u8], at: usize) -> u8
@@ -25,6 +25,30 @@ pub fn starts_with(s: &[u8], front: &[u8]) -> bool
         i += 1;
     }
     true
+}
+
+// Whether two slices have the same bytes.
+pub fn same(r: &[u8], s: &[u8]) -> bool
+    ensures { λ b. ⌜ b ≡ same (now (r .entry)) (now (s .entry)) ⌝ }
+{
+    if r.len() != s.len() {
+        return false;
+    }
+    starts_with(r, s)
+}
+
+// The `count` bytes from `at` on, where they stand; none, where they do not all lie in s.
+pub fn part(s: &[u8], at: usize, count: usize) -> &[u8]
+    ensures { λ r. ⌜ now r ≡ part (now (s .entry)) at count ⌝ }
+{
+    if s.len() < at {
+        return &s[0..0];
+    }
+    if s.len() - at < count {
+        return &s[0..0];
+    }
+    let end = at + count;
+    &s[at..end]
 }
 
 // Copies src into dst from `at` on and says true; where it does not fit, dst stays and the answer is false.
