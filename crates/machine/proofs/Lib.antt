@@ -33,5 +33,7 @@ pub mod Twins
 pub mod Isolation
 pub mod Book
 pub mod Ledger
+pub mod Stands
+pub mod EitherCall
 pub mod Witness
 pub mod LedgerWitness
