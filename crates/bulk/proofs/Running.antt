@@ -1,7 +1,7 @@
 -- What a sound state tells of its numbers and of the packet that an ask comes to. Assumes nothing.
 use Prim.Native.Nat.{ℕ, _+_, _*_, _%_, _≤_, _<_}
 use mathlib.Core.Path.{_≡_, refl, sym, subst, ap, _∙_}
-use mathlib.Core.Bool.{Bool, true}
+use mathlib.Core.Bool.{true}
 use mathlib.Core.List.{List, []}
 use native.Mathlib.Omega.{arith}
 use lib.Dec.{eqb}
@@ -34,6 +34,10 @@ use Rattle.machine.specs.Bulk.{nextPacket, askStage, ask, bytesOf, deliver, pac
 use Rattle.machine.proofs.Tables.{unit-small, unit-within}
 use Rattle.machine.proofs.Fit.{lun-fits, stage-fits}
 use Rattle.bulk.specs.Parts.{Sound, Due, Gathering, Sending, Askable, Within}
+
+-- Where the code comes to a packet, the machine comes to the same.
+pub comes : (s : State) (a : Asked) (x y : Source) (t : State) → a ≡ ask s → a ≡ Packet x t → x ≡ y → ask s ≡ Packet y t
+comes s a x y t e f g = sym e ∙ f ∙ ap (λ (z : Source). Packet z t) g
 
 module _ (s : State) (us : Table) (m : List ℕ) (w : Sound s us m) where
   abbrev n₀ : ℕ
@@ -91,11 +95,11 @@ module _ (s : State) (us : Table) (m : List ℕ) (w : Sound s us m) where
   stage-within (ReplyIn r place left) e = let a = replying r place left e .within in by-if (Within s us) (eqb left 0) _ _ (λ _. tt) (λ _ k. let z = sizes k r in omega arith)
   stage-within (StatusDue status) e = tt
 
-  -- Where the code comes to a packet, the machine comes to the same.
+  -- Of a sound state such a packet lies in its source.
   pub found : (a : Asked) (x y : Source) (t : State) → a ≡ ask s → a ≡ Packet x t → x ≡ y → (ask s ≡ Packet y t) × Within s us (Packet y t)
   unfolding ask
   found a x y t e f g =
-      let h : ask s ≡ Packet y t = sym e ∙ f ∙ ap (λ (z : Source). Packet z t) g in
+      let h = comes s a x y t e f g in
       (h, subst (Within s us) h (by-if (Within s us) (s .link .haltin) _ _ (λ _. tt) (λ _. stage-within (s .link .task .stage) refl)))
 
   -- A packet of the unit's bytes stands in the medium, behind its first block.

@@ -4,3 +4,4 @@ mod ask;
 mod inward;
 mod outward;
 pub mod parts;
+pub mod show;
