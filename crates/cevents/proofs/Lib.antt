@@ -1,7 +1,10 @@
 pub mod Asked
 pub mod Making
 pub mod Never
+pub mod Places
 pub mod Turns
+pub mod ShownTurns
 pub mod Ways
+pub mod Shown
 pub mod Spans
 pub mod Due

@@ -42,7 +42,7 @@ unfolding laidOut _and_
 unlaid us h = simp (lt-leb (length us) 4 h) (and-false (leb 1 (length us)))
 
 module _ (w : World) (h : 4 < length (w .units)) where
-  unfit : fitting w ≡ false
+  pub unfit : fitting w ≡ false
   unfolding fits _and_
   unfit = simp (unlaid (w .units) h)
 
@@ -76,15 +76,15 @@ module _ (r : Record) (us : Table) (m : List ℕ) (e : Event) where
       (λ _. refl)
 
 -- The numbers stand for a record, and the table is held whole.
-abbrev Stands : flats.Flat → Units → Bool
+abbrev pub Stands : flats.Flat → Units → Bool
 Stands f h = decodes f and leb (h .count) 4
 
-module _ (g : Given) (f : flats.Flat) (h : Units) (e : Event) (p m : List ℕ) where
-  one-false : {P : Type 0} (a b : Bool) → a and b ≡ false → (a ≡ false → P) → (b ≡ false → P) → P
-  unfolding _and_
-  one-false true b n x y = y n
-  one-false false b n x y = x refl
+pub one-false : {P : Type 0} (a b : Bool) → a and b ≡ false → (a ≡ false → P) → (b ≡ false → P) → P
+unfolding _and_
+one-false true b n x y = y n
+one-false false b n x y = x refl
 
+module _ (g : Given) (f : flats.Flat) (h : Units) (e : Event) (p m : List ℕ) where
   pub refuses : (t : tolds.Told) (f' : flats.Flat) (c : Bool) (h' : Units) → Stands f h ≡ false → t ≡ answer 10 0 → f' ≡ f → c ≡ false
       → left t (rec g f' p) (kept c (tableOf h) h') m (lent e) ≡ onRecord (rec g f p) (tableOf h) m e
   refuses t f' c h' n et ef ec =

@@ -1,18 +1,19 @@
 -- The quick ways leave what the machine's step leaves. Assumes nothing.
-use Prim.Native.Nat.{ℕ, _+_, _*_, _-_, _%_, min, _≤_, _<_}
+use Prim.Native.Nat.{ℕ, _+_, _*_, _-_, min, _≤_, _<_}
 use mathlib.Core.Path.{_≡_, refl, sym, ap, _∙_, subst}
-use mathlib.Core.Bool.{true, false}
+use mathlib.Core.Bool.{Bool, true, false}
 use mathlib.Core.List.{List, []}
 use native.Mathlib.Omega.{arith}
 use native.Mathlib.Nat.{min-eq-left}
+use lib.Dec.{eqb}
 use lib.ListN.{length, take, drop, set}
 use lib.Seq.{set-getD}
-use borrow.Author.Tests.{leb-true, ltb-true, eqb-true, le-leb, lt-leb, lt-ltb, le-ltb, eq-eqb, ne-eqb}
+use borrow.Author.Tests.{leb-true, eqb-true, eqb-false, le-leb, lt-leb, lt-ltb, le-ltb, eq-eqb, ne-eqb}
 use Rattle.wire.specs.Choice.{if_then_else_, _and_, look}
 use Rattle.wire.specs.Slices.{zeros, placed}
 use Rattle.wire.specs.Bits.{bits}
 use Rattle.scsi.specs.Sense.{noSense}
-use Rattle.wire.proofs.Cases.{both, and-true, if-true, if-false}
+use Rattle.wire.proofs.Cases.{both, and-true, by-if, if-true, if-false}
 use Rattle.wire.proofs.Lists.{length-placed}
 use Rattle.wire.proofs.Parts.{length-part, part-of-part}
 use Rattle.bot.specs.Csw.{cswBytes}
@@ -41,30 +42,15 @@ use Rattle.crecord.specs.declared.record.Given.{Given}
 use Rattle.crecord.specs.declared.record.Flat as flats
 use Rattle.crecord.specs.Flat.{noNumbers, noValue, formOf, flag, decodes, stateFrom, identityFrom, numbersOf, worth, flagsOf, flatWith, flatOf, answer, rec}
 use Rattle.cevents.specs.Events.{left, leaves, onRecord}
-use Rattle.cevents.specs.Ways.{Whole, Free, ReadsOn, Passes, Gathers, movedOn, ended}
+use Rattle.cevents.specs.Ways.{Whole, Free, ReadsOn, Passes, Gathers, movedOn, readOn, ended}
 use Rattle.cevents.specs.declared.place.Place.{Place}
-
--- ---- what the premises tell of the numbers
-
-pub record Reading (f : flats.Flat) (first medium : ℕ) : Type 0 where
-  pub within : 512 * first + f .place + f .left ≤ medium
-  pub due : f .left ≤ f .residue
-  pub small : f .place + f .left ≤ 512 * mostBlocks
-
-pub record Writing (f : flats.Flat) (first medium : ℕ) : Type 0 where
-  pub room : f .value ≤ 448
-  pub due : 512 * f .left ≤ f .residue
-  pub within : f .place + f .left ≤ mostBlocks
-  pub inside : 512 * first + 512 * f .place + 512 * f .left ≤ medium
-
--- ---- the ways
 
 module _ (g : Given) (f : flats.Flat) (us : Table) (m : List ℕ) (place : Place) (h : Whole us (f .lun) (length m) place) where
   abbrev u : LogicalUnit
   u = unitAt us (f .lun)
 
   -- a free device in a stage
-  abbrev at : Stage → ℕ → State
+  abbrev pub at : Stage → ℕ → State
   at s residue = state (f .address) true (link false false false (task s (f .lun) (f .tag) (f .announced) residue))
 
   abbrev dev : Stage → ℕ → List ℕ → Device
@@ -74,13 +60,13 @@ module _ (g : Given) (f : flats.Flat) (us : Table) (m : List ℕ) (place : Place
   over d = world d us m
 
   -- the numbers stand for one
-  record Stands (s : Stage) : Type 0 where
-    free : Free g f
-    running : stageFits (u .blocks) s (f .announced) (f .residue) ≡ true
-    valid : decodes f ≡ true
-    is : stateFrom f ≡ at s (f .residue)
+  pub record Stands (s : Stage) : Type 0 where
+    pub free : Free g f
+    pub running : stageFits (u .blocks) s (f .announced) (f .residue) ≡ true
+    pub valid : decodes f ≡ true
+    pub is : stateFrom f ≡ at s (f .residue)
 
-  served : mediumFits us m ≡ true
+  pub served : mediumFits us m ≡ true
   unfolding mediumFits
   served = eq-eqb (length m) (512 * total us) (h .whole)
 
@@ -99,10 +85,10 @@ module _ (g : Given) (f : flats.Flat) (us : Table) (m : List ℕ) (place : Place
       (omega arith, omega arith)
 
   module _ {s : Stage} (w : Stands s) (p : List ℕ) where
-    abbrev here : World
+    abbrev pub here : World
     here = over (dev s (f .residue) p)
 
-    fit : fitting here ≡ true
+    pub fit : fitting here ≡ true
     unfolding addressFits idleFits lockFits taskFits if_then_else_
     fit =
         fits-of here (record {
@@ -133,51 +119,54 @@ module _ (g : Given) (f : flats.Flat) (us : Table) (m : List ℕ) (place : Place
 
   -- ---- a whole packet of a read
 
-  module _ (b : List ℕ) (w : ReadsOn g f (place .blocks) (length b)) where
+  module _ {buffer : ℕ} (w : ReadsOn g f (place .blocks) buffer) where
     running : inFits (512 * u .blocks) (f .place) (f .left) (f .announced) (f .residue) ≡ true
     running = subst (λ (n : ℕ). inFits (512 * n) (f .place) (f .left) (f .announced) (f .residue) ≡ true) (h .blocks) (w .running)
 
-    reads-on : Stands (DataIn (f .place) (f .left))
+    pub reads-on : Stands (DataIn (f .place) (f .left))
     unfolding stageFits decodes stateFrom formOf look if_then_else_ _and_ noValue flag bits
     reads-on = record { free = w .free; running = running; valid = simp (w .stage, w .value, w .free .extra, w .free .flags); is = simp (w .stage, w .free .flags) }
 
-    pub reading : Reading f (place .first) (length m)
-    unfolding inFits
-    reading =
-        let r = both _ _ running in
-        let l : f .place + f .left ≤ 512 * u .blocks = leb-true _ _ (r .0) in
-        let s = small in
-        let k = part-in in
-        let e = h .first in
-        record { within = omega arith; due = leb-true _ _ (both _ _ (r .1) .0); small = omega arith }
+    -- what is then due
+    abbrev pub after : State
+    after = if eqb (f .left) 64 then at (StatusDue Passed) 0 else at (DataIn (f .place + 64) (f .left - 64)) (f .residue - 64)
 
-    -- one that is handed out, and what is then due
-    hands : (t : State) → ask (at (DataIn (f .place) (f .left)) (f .residue)) ≡ Packet (source.Medium (f .place) 64) t → (p : List ℕ)
-        → onRecord (rec g f p) us m (bulkIn b) ≡ left (answer 0 64) (rec g (flatOf t) p) us m (placed b 0 (take 64 (drop (512 * place .first + f .place) m)))
-    unfolding inFits bytesOf partOf
-    hands t e p =
-        let l : f .place + f .left ≤ 512 * u .blocks = leb-true _ _ (both _ _ running .0) in
-        let k : f .place + 64 ≤ 512 * u .blocks = omega (arith, w .packet) in
-        let z : 512 * u .first + f .place ≡ 512 * place .first + f .place = omega (arith, h .first) in
-        let r = part-in in
-        asks reads-on p b _ (w .room)
-        (sym (delivers (here reads-on p) b _ _ _ 64 e (part-of-part (512 * u .first) (512 * u .blocks) (f .place) 64 m k ∙ ap (λ (n : ℕ). take 64 (drop n m)) z) (length-part (512 * place .first + f .place) 64 m (omega arith))))
+    pub after-flat : flatOf after ≡ readOn f
+    unfolding flatOf flatWith numbersOf flagsOf worth if_then_else_ movedOn readOn
+    after-flat = either (eqb (f .left) 64)
+      where
+        either : (b : Bool) → flatOf (if b then at (StatusDue Passed) 0 else at (DataIn (f .place + 64) (f .left - 64)) (f .residue - 64))
+            ≡ (if b then movedOn f 7 0 0 0 0 else movedOn f 2 (f .residue - 64) (f .place + 64) (f .left - 64) 0)
+        either true = refl
+        either false = refl
 
-    pub quick-in : 64 < f .left → (p : List ℕ) → onRecord (rec g f p) us m (bulkIn b)
-        ≡ left (answer 0 64) (rec g (movedOn f 2 (f .residue - 64) (f .place + 64) (f .left - 64) 0) p) us m (placed b 0 (take 64 (drop (512 * place .first + f .place) m)))
-    unfolding ask askStage nextPacket handedState moved haltAtEnd nextIn if_then_else_ flatOf flatWith numbersOf flagsOf worth movedOn
-    quick-in more p =
+    pub hands : ask (at (DataIn (f .place) (f .left)) (f .residue)) ≡ Packet (source.Medium (f .place) 64) after
+    unfolding ask askStage nextPacket handedState moved haltAtEnd nextIn if_then_else_
+    hands =
+        let k = w .packet in
         let n : min 64 (f .left) ≡ 64 = min-eq-left (omega arith) in
-        hands (at (DataIn (f .place + 64) (f .left - 64)) (f .residue - 64)) (simp (ne-eqb (f .left) 0 (λ z. omega arith), lt-leb (f .left) 64 more, n)) p
-
-    pub quick-last : f .left ≡ 64 → (p : List ℕ) → onRecord (rec g f p) us m (bulkIn b)
-        ≡ left (answer 0 64) (rec g (movedOn f 7 0 0 0 0) p) us m (placed b 0 (take 64 (drop (512 * place .first + f .place) m)))
-    unfolding ask askStage nextPacket handedState moved haltAtEnd nextIn if_then_else_ flatOf flatWith numbersOf flagsOf worth movedOn
-    quick-last e p =
-        let n : min 64 (f .left) ≡ 64 = min-eq-left (omega arith) in
+        let some = ne-eqb (f .left) 0 (λ x. omega arith) in
+        by-if (λ (t : State). ask (at (DataIn (f .place) (f .left)) (f .residue)) ≡ Packet (source.Medium (f .place) 64) t) (eqb (f .left) 64) _ _
+        (λ b.
+        let e = eqb-true _ _ b in
         let r = w .last e in
         let z : f .residue - 64 ≡ 0 = omega arith in
-        hands (at (StatusDue Passed) 0) (simp (ne-eqb (f .left) 0 (λ x. omega arith), le-leb (f .left) 64 (omega arith), n, z)) p
+        simp (some, le-leb (f .left) 64 (omega arith), n, z))
+        (λ b.
+        let e : f .left ≡ 64 → ⊥ = eqb-false _ _ b in
+        simp (some, lt-leb (f .left) 64 (omega arith), n))
+
+  pub quick-in : (b : List ℕ) → ReadsOn g f (place .blocks) (length b) → (p : List ℕ) → onRecord (rec g f p) us m (bulkIn b)
+      ≡ left (answer 0 64) (rec g (readOn f) p) us m (placed b 0 (take 64 (drop (512 * place .first + f .place) m)))
+  unfolding inFits bytesOf partOf
+  quick-in b w p =
+      let l : f .place + f .left ≤ 512 * u .blocks = leb-true _ _ (both _ _ (running w) .0) in
+      let k : f .place + 64 ≤ 512 * u .blocks = omega (arith, w .packet) in
+      let z : 512 * u .first + f .place ≡ 512 * place .first + f .place = omega (arith, h .first) in
+      let r = part-in in
+      asks (reads-on w) p b _ (w .room)
+      (sym (delivers (here (reads-on w) p) b _ _ _ 64 (hands w) (part-of-part (512 * u .first) (512 * u .blocks) (f .place) 64 m k ∙ ap (λ (n : ℕ). take 64 (drop n m)) z) (length-part (512 * place .first + f .place) 64 m (omega arith))))
+      ∙ ap (λ (n : flats.Flat). left (answer 0 64) (rec g n p) us m (placed b 0 (take 64 (drop (512 * place .first + f .place) m)))) (after-flat w)
 
   -- ---- the status of a command that passed
 
@@ -208,20 +197,6 @@ module _ (g : Given) (f : flats.Flat) (us : Table) (m : List ℕ) (place : Place
     gathers : Stands (DataOut (f .place) (f .left) (f .value))
     unfolding stageFits decodes stateFrom formOf look if_then_else_ _and_ flag bits
     gathers = record { free = w .free; running = due; valid = simp (w .stage, w .free .extra, w .free .flags); is = simp (w .stage, w .free .flags) }
-
-    pub writing : Writing f (place .first) (length m)
-    unfolding outFits
-    writing =
-        let r = both _ _ due in
-        let t = both _ _ (r .1) in
-        let j = both _ _ (t .1) in
-        let l : f .place + f .left ≤ u .blocks = leb-true _ _ (r .0) in
-        let z : f .value % 64 ≡ 0 = eqb-true _ _ (t .0) in
-        let x : f .value < 512 = ltb-true _ _ (j .0) in
-        let b = small in
-        let k = part-in in
-        let e = h .first in
-        record { room = omega arith; due = leb-true _ _ (both _ _ (j .1) .0); within = omega arith; inside = omega arith }
 
     -- data changes no unit
     stored : (d : Device) (s m' : List ℕ) → onData (f .place) (f .left) (f .value) q (here gathers p .dev) u (partOf u m) ≡ unitOut Ack d u s → withPart u m s ≡ m'

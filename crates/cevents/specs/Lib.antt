@@ -1,4 +1,5 @@
 pub mod Events
+pub mod Shown
 pub mod Spans
 pub mod Ways
 pub mod Quick

@@ -1,19 +1,14 @@
 -- Parts that follow on, counted as they are gone through: what the table's quick check comes to.
 use Prim.Native.Nat.{ℕ, _+_}
-use mathlib.Core.Path.{_≡_}
-use mathlib.Core.Bool.{true}
+use lib.Dec.{eqb}
+use Rattle.wire.specs.Choice.{if_then_else_, _and_}
 use Rattle.machine.specs.declared.record.LogicalUnit.{LogicalUnit}
 use Rattle.machine.specs.Units.{sizeFits, switchFits, Table, switchesFit, total, laidOut}
 
--- A unit that begins at a block, and ends before another.
-pub record Step (u : LogicalUnit) (start end : ℕ) : Type 0 where
-  pub first : u .first ≡ start
-  pub size : sizeFits (u .blocks) ≡ true
-  pub switch : switchFits (u .switch) ≡ true
-  pub behind : start + u .blocks ≡ end
+-- The block behind a unit that begins where it should and fits; else 0.
+unfoldable pub behind : LogicalUnit → ℕ → ℕ
+behind u start = if eqb (u .first) start and sizeFits (u .blocks) and switchFits (u .switch) then start + u .blocks else 0
 
--- A table that fits, and how many blocks it has.
-pub record Spans (us : Table) (end : ℕ) : Type 0 where
-  pub laid : laidOut us ≡ true
-  pub switches : switchesFit us ≡ true
-  pub sum : total us ≡ end
+-- How many blocks a table has that fits; else 0.
+unfoldable pub spanned : Table → ℕ
+spanned us = if laidOut us and switchesFit us then total us else 0

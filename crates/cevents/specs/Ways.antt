@@ -1,15 +1,27 @@
 -- The premises of the quick ways: a whole packet of a read, a whole packet of a write, and the status of a command that passed.
-use Prim.Native.Nat.{ℕ, _*_, _≤_, _<_}
+use Prim.Native.Nat.{ℕ, _+_, _*_, _-_, _≤_, _<_}
 use mathlib.Core.Path.{_≡_}
-use mathlib.Core.Bool.{true}
+use mathlib.Core.Bool.{Bool, true, false}
+use lib.Dec.{leb, eqb}
 use lib.ListN.{length}
-use Rattle.machine.specs.Units.{Table, unitAt, switchesFit, total, laidOut}
+use Rattle.wire.specs.Choice.{if_then_else_, _and_}
+use Rattle.machine.specs.Units.{Table, unitAt, inTable, switchesFit, total, laidOut}
 use Rattle.machine.specs.Fits.{numberFits, outFits, inFits}
 use Rattle.crecord.specs.declared.record.Given.{Given}
 use Rattle.crecord.specs.declared.record.Flat as flats
 use Rattle.cevents.specs.declared.place.Place.{Place}
 
--- A table that fits, the size of its medium, and where its unit n lies.
+-- Where unit n lies, in a table that has it and fits over a medium of this size.
+abbrev pub found : Table → ℕ → Place
+found us n = record { whole = true; first = unitAt us n .first; blocks = unitAt us n .blocks }
+
+abbrev pub nowhere : Place
+nowhere = record { whole = false; first = 0; blocks = 0 }
+
+unfoldable pub placeIn : Table → ℕ → ℕ → Place
+placeIn us n medium = if inTable n us and laidOut us and switchesFit us and eqb medium (512 * total us) then found us n else nowhere
+
+-- The same as facts, of a place that is given.
 pub record Whole (us : Table) (n medium : ℕ) (p : Place) : Type 0 where
   pub listed : n < length us
   pub laid : laidOut us ≡ true
@@ -25,6 +37,9 @@ pub record Free (g : Given) (f : flats.Flat) : Type 0 where
   pub address : f .address ≤ 0x7F
   pub number : numberFits (g .number) ≡ true
 
+unfoldable pub isFree : Given → flats.Flat → Bool
+isFree g f = eqb (f .flags) 1 and eqb (f .extra) 0 and leb (f .address) 0x7F and numberFits (g .number)
+
 -- The last packet is one that leaves no residue: otherwise a halt comes.
 pub record ReadsOn (g : Given) (f : flats.Flat) (blocks buffer : ℕ) : Type 0 where
   pub free : Free g f
@@ -34,6 +49,16 @@ pub record ReadsOn (g : Given) (f : flats.Flat) (blocks buffer : ℕ) : Type 0 w
   pub last : f .left ≡ 64 → f .residue ≡ 64
   pub running : inFits (512 * blocks) (f .place) (f .left) (f .announced) (f .residue) ≡ true
   pub room : 64 ≤ buffer
+
+unfoldable pub readsOn : Given → flats.Flat → ℕ → ℕ → Bool
+readsOn g f blocks buffer =
+    isFree g f
+    and eqb (f .stage) 2
+    and eqb (f .value) 0
+    and leb 64 (f .left)
+    and (if eqb (f .left) 64 then eqb (f .residue) 64 else true)
+    and inFits (512 * blocks) (f .place) (f .left) (f .announced) (f .residue)
+    and leb 64 buffer
 
 pub record Passes (g : Given) (f : flats.Flat) (buffer : ℕ) : Type 0 where
   pub free : Free g f
@@ -68,6 +93,10 @@ movedOn f stage residue place left value =
       address = f .address;
       lun = f .lun;
     }
+
+-- The same after a whole packet of a read: the status is due, or more of the data.
+unfoldable pub readOn : flats.Flat → flats.Flat
+readOn f = if eqb (f .left) 64 then movedOn f 7 0 0 0 0 else movedOn f 2 (f .residue - 64) (f .place + 64) (f .left - 64) 0
 
 -- The numbers once the command has ended.
 unfoldable pub ended : flats.Flat → flats.Flat

@@ -19,7 +19,14 @@ use wire::slices::put;
 use wire::slices::put_packet;
 
 // A transfer of a free device goes on.
-fn moved_on(flat: Flat, stage: u8, residue: u32, place: u32, left: u32, value: u32) -> Flat
+pub(crate) fn moved_on(
+    flat: Flat,
+    stage: u8,
+    residue: u32,
+    place: u32,
+    left: u32,
+    value: u32,
+) -> Flat
     ensures { λ r. ⌜ r ≡ movedOn flat stage residue place left value ⌝ }
 {
     Flat {

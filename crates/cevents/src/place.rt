@@ -1,11 +1,10 @@
 // Where the unit of the command in hand lies, in a table that fits over its medium: what the quick ways ask of the table.
-ghost use Prim.Native.Nat.{ℕ, _+_, _≤_};
+ghost use Prim.Native.Nat.{_+_, _≤_};
 ghost use mathlib.Core.Path.{_≡_};
-ghost use mathlib.Core.Bool.{true, false};
 ghost use mathlib.Core.List.{[], _∷_};
 ghost use Rattle.units.specs.Held.{tableOf};
-ghost use Rattle.cevents.specs.Ways.{Whole};
-ghost use Rattle.cevents.specs.Spans.{Step, Spans};
+ghost use Rattle.cevents.specs.Ways.{nowhere, placeIn};
+ghost use Rattle.cevents.specs.Spans.{behind, spanned};
 use machine::record::LogicalUnit;
 use units::table::Units;
 use units::table::unit_at;
@@ -13,14 +12,14 @@ use units::unit::size_fits;
 use units::unit::switch_fits;
 
 // The unit's first block and its size, where the table is whole.
-pub(crate) struct Place {
-    pub(crate) whole: bool,
-    pub(crate) first: u32,
-    pub(crate) blocks: u32,
+pub struct Place {
+    pub whole: bool,
+    pub first: u32,
+    pub blocks: u32,
 }
 
 fn nowhere() -> Place
-    ensures { λ r. ⌜ r .whole ≡ false ⌝ }
+    ensures { λ r. ⌜ r ≡ nowhere ⌝ }
 {
     Place {
         whole: false,
@@ -32,7 +31,7 @@ fn nowhere() -> Place
 // The block behind a unit that begins where it should, is of a size within the limit and has a switch that fits; else 0.
 fn end_of(unit: LogicalUnit, start: u64) -> u64
     requires { ⌜ start ≤ 12884901885 ⌝ }
-    ensures { λ r. ⌜ ((r ≡ 0 → ⊥) → Step unit start r) × (r ≤ start + 4294967295) ⌝ }
+    ensures { λ r. ⌜ (r ≡ behind unit start) × (r ≤ start + 4294967295) ⌝ }
 {
     if (unit.first as u64) != start {
         return 0;
@@ -48,7 +47,7 @@ fn end_of(unit: LogicalUnit, start: u64) -> u64
 
 // The block behind the last unit of a table that fits; else 0.
 fn end_of_all(units: Units) -> u64
-    ensures { λ r. ⌜ ((r ≡ 0 → ⊥) → Spans (tableOf units) r) × (r ≤ 17179869180) ⌝ }
+    ensures { λ r. ⌜ (r ≡ spanned (tableOf units)) × (r ≤ 17179869180) ⌝ }
 {
     let count = units.count;
     if count < 1 {
@@ -82,8 +81,8 @@ fn end_of_all(units: Units) -> u64
 }
 
 // In a table of one unit.
-pub(crate) fn place_alone(unit: LogicalUnit, lun: u8, medium: usize) -> Place
-    ensures { λ r. ⌜ (r .whole ≡ true → Whole (unit ∷ []) lun medium r) ⌝ }
+pub fn place_alone(unit: LogicalUnit, lun: u8, medium: usize) -> Place
+    ensures { λ r. ⌜ r ≡ placeIn (unit ∷ []) lun medium ⌝ }
 {
     if lun != 0 {
         return nowhere();
@@ -103,8 +102,8 @@ pub(crate) fn place_alone(unit: LogicalUnit, lun: u8, medium: usize) -> Place
 }
 
 // In a table of several.
-pub(crate) fn place_among(units: Units, lun: u8, medium: usize) -> Place
-    ensures { λ r. ⌜ (r .whole ≡ true → Whole (tableOf units) lun medium r) ⌝ }
+pub fn place_among(units: Units, lun: u8, medium: usize) -> Place
+    ensures { λ r. ⌜ r ≡ placeIn (tableOf units) lun medium ⌝ }
 {
     if units.count <= (lun as usize) {
         return nowhere();

@@ -2,7 +2,7 @@
 // passed. The record need not be decoded for these. What is asked of the table is in place.rt.
 ghost use mathlib.Core.Path.{_≡_};
 ghost use mathlib.Core.Bool.{true};
-ghost use Rattle.cevents.specs.Ways.{Free, ReadsOn, Passes, Gathers};
+ghost use Rattle.cevents.specs.Ways.{isFree, readsOn, Passes, Gathers};
 use crecord::record::Flat;
 use crecord::record::Given;
 use state::fits::in_fits;
@@ -11,7 +11,7 @@ use state::fits::out_fits;
 
 // Configured, no pipe halted, and without the number that only a sense on its way has.
 fn is_free(given: Given, flat: Flat) -> bool
-    ensures { λ r. ⌜ (r ≡ true → Free given flat) ⌝ }
+    ensures { λ r. ⌜ r ≡ isFree given flat ⌝ }
 {
     let flags = flat.flags;
     let address = flat.address;
@@ -31,7 +31,7 @@ fn is_free(given: Given, flat: Flat) -> bool
 
 // A packet of 64 bytes is due; the last one leaves no residue.
 pub(crate) fn reads_on(given: Given, flat: Flat, blocks: u32, buffer: usize) -> bool
-    ensures { λ r. ⌜ (r ≡ true → ReadsOn given flat blocks buffer) ⌝ }
+    ensures { λ r. ⌜ r ≡ readsOn given flat blocks buffer ⌝ }
 {
     let stage = flat.stage;
     let place = flat.place;

@@ -61,7 +61,7 @@ pub struct MadeTurn {
 }
 
 // Whether the numbers stand for a record, and the table is held whole.
-fn stands(flat: Flat, units: Units) -> bool
+pub(crate) fn stands(flat: Flat, units: Units) -> bool
     ensures { λ r. ⌜ r ≡ (decodes flat and leb (units .count) 4) ⌝ }
 {
     if !decodes(flat) {
@@ -348,7 +348,7 @@ pub fn turn_in(given: Given, flat: Flat, units: Units, medium: &[u8], buffer: &m
 }
 
 // A table of one unit.
-fn alone(unit: LogicalUnit) -> Units
+pub(crate) fn alone(unit: LogicalUnit) -> Units
     ensures { λ r. ⌜ tableOf r ≡ (unit ∷ []) ⌝ }
 {
     let none = LogicalUnit {

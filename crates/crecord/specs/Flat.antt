@@ -17,6 +17,8 @@ use Rattle.machine.specs.declared.record.Stage.{Stage}
 use Rattle.machine.specs.declared.record.Stage.the-variants.{Ready, DataOut, DataIn, ReplyIn, StatusDue}
 use Rattle.machine.specs.declared.record.State.{State}
 use Rattle.machine.specs.declared.record.Device.{Device}
+use Rattle.machine.specs.declared.show.Extent.{Extent}
+use Rattle.machine.specs.declared.show.Extent.the-variants as extent
 use Rattle.machine.specs.Units.{Table}
 use Rattle.machine.specs.Record.{task, link, state, device}
 use Rattle.machine.specs.World.{World, world}
@@ -24,6 +26,7 @@ use Rattle.crecord.specs.declared.record.Given.{Given}
 use Rattle.crecord.specs.declared.record.Flat as flats
 use Rattle.crecord.specs.declared.record.Record.{Record}
 use Rattle.crecord.specs.declared.record.Told as tolds
+use Rattle.crecord.specs.declared.record.Shown as showns
 use Rattle.crecord.specs.declared.encode.Numbers.{Numbers}
 
 -- ---- the stage: a number, and what place, left, value and extra mean under it
@@ -183,3 +186,18 @@ recordOf w = rec (givenOf (w .dev .identity)) (flatOf (w .dev .state)) (w .dev .
 
 abbrev pub answer : ℕ → ℕ → tolds.Told
 answer n k = record { number = n; count = k }
+
+-- ---- the answer of a showing call (document 02, A11): the two, and where the packet stands
+
+abbrev pub sourceNumber : Extent → ℕ
+sourceNumber extent.Nowhere = 0
+sourceNumber (extent.Medium start count) = 1
+sourceNumber (extent.Reply start count) = 2
+
+abbrev pub startOf : Extent → ℕ
+startOf extent.Nowhere = 0
+startOf (extent.Medium start count) = start
+startOf (extent.Reply start count) = start
+
+abbrev pub shownAs : ℕ → ℕ → Extent → showns.Shown
+shownAs n k x = record { number = n; source = sourceNumber x; start = startOf x; count = k }

@@ -1,15 +1,17 @@
 // From the device's state and answers to the numbers that C holds.
 ghost use mathlib.Core.Path.{_≡_};
 ghost use Rattle.machine.specs.Answer.{refusalNumber, numberOf, countOf};
-ghost use Rattle.crecord.specs.Flat.{senseNumber, worth, flagsOf, numbers, numbersOf, flatOf, givenOf, answer};
+ghost use Rattle.crecord.specs.Flat.{senseNumber, worth, flagsOf, numbers, numbersOf, flatOf, givenOf, answer, sourceNumber, startOf, shownAs};
 use crate::record::Flat;
 use crate::record::Given;
+use crate::record::Shown;
 use crate::record::Told;
 use bot::csw::Status;
 use machine::answer::Answer;
 use machine::answer::Refusal;
 use machine::record::Stage;
 use machine::record::State;
+use machine::show::Extent;
 use scsi::page::page_code;
 use scsi::reply::Reply;
 use scsi::sense::Sense;
@@ -162,5 +164,37 @@ pub fn told(ending: Answer) -> Told
             number: refusal_number(why),
             count: 0,
         },
+    }
+}
+
+fn source_number(at: Extent) -> u32
+    ensures { λ r. ⌜ r ≡ sourceNumber at ⌝ }
+{
+    match at {
+        Extent::Nowhere => 0,
+        Extent::Medium { start: _, count: _ } => 1,
+        Extent::Reply { start: _, count: _ } => 2,
+    }
+}
+
+fn start_of(at: Extent) -> usize
+    ensures { λ r. ⌜ r ≡ startOf at ⌝ }
+{
+    match at {
+        Extent::Nowhere => 0,
+        Extent::Medium { start, count: _ } => start,
+        Extent::Reply { start, count: _ } => start,
+    }
+}
+
+pub fn shown(ending: Answer, at: Extent) -> Shown
+    ensures { λ r. ⌜ r ≡ shownAs (numberOf ending) (countOf ending) at ⌝ }
+{
+    let told = told(ending);
+    Shown {
+        number: told.number,
+        source: source_number(at),
+        start: start_of(at),
+        count: told.count,
     }
 }

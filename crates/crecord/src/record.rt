@@ -39,3 +39,13 @@ pub struct Told {
     pub number: u32,
     pub count: usize,
 }
+
+// The same of a showing call, and where the packet stands: in the medium 1, in the reply 2, from a byte on; without data all
+// three are 0.
+#[repr(C)]
+pub struct Shown {
+    pub number: u32,
+    pub source: u32,
+    pub start: usize,
+    pub count: usize,
+}

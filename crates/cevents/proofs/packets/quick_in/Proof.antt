@@ -6,8 +6,8 @@ use native.Mathlib.Omega.{arith}
 use borrow.Author.Tests.{not-false}
 use Rattle.cevents.specs.declared.packets.Quick.{Quick}
 use Rattle.cevents.proofs.Never.{never}
-use Rattle.cevents.proofs.Ways.{quick-in, quick-last}
-use Rattle.cevents.proofs.Due.{reads-due}
+use Rattle.cevents.proofs.Ways.{quick-in}
+use Rattle.cevents.proofs.Due.{reads, reads-due, read-last, read-more}
 use borrow.Author.Needs.{needs}
 use Rattle.cevents.proofs.packets.quick_in.Statement.{statement}
 use Rattle.cevents.proofs.packets.quick_in.Tie as tie
@@ -54,7 +54,7 @@ part-put-packet-start c = search needs
 part-put-packet-end : tie.Need-part-put-packet-end
 part-put-packet-end c =
     let a = c .before .before .before .before .before .before .before .args in
-    let w = c .before .before .before .reads-on .ensures (not-false _ (c .before .before .if2 .left)) in
+    let w = reads _ _ _ _ (sym (c .before .before .before .reads-on .ensures) ∙ not-false _ (c .before .before .if2 .left)) in
     let d = reads-due _ _ _ _ w in
     let i = c .before .before .before .before .before .before .before .pre (not-false _ (c .before .before .before .before .if1 .left)) in
     omega (arith, d .within, w .packet, i .0)
@@ -74,17 +74,17 @@ same-length-2 c = search needs
 returns-3 : tie.Need-returns-3
 returns-3 c =
     let a = c .before .before .before .before .before .before .before .before .before .before .before .before .before .before .args in
-    let w = c .before .before .before .before .before .before .before .before .before .before .reads-on .ensures (not-false _ (c .before .before .before .before .before .before .before .before .before .if2 .left)) in
+    let w = reads _ _ _ _ (sym (c .before .before .before .before .before .before .before .before .before .before .reads-on .ensures) ∙ not-false _ (c .before .before .before .before .before .before .before .before .before .if2 .left)) in
     let e : 512 * a .place .first + a .flat .place + 64 - (512 * a .place .first + a .flat .place) ≡ 64 = add-sub-cancel-left _ _ in
     record {
-      answers = λ _ us h p. simp (c .done .ensures, c .before .moved-on .ensures, c .before .before .before .before .before .put-packet .ensures, e) (sym (quick-last (a .given) (a .flat) us (a .medium .now) (a .place) (h (not-false _ (c .before .before .before .before .before .before .before .before .before .before .before .if1 .left))) (a .buffer .now) w (c .before .before .if3 .taken) p));
+      answers = λ _ us h p. simp (c .done .ensures, c .before .moved-on .ensures, c .before .before .before .before .before .put-packet .ensures, e) (sym (rw (read-last (a .flat) (c .before .before .if3 .taken)) at (quick-in (a .given) (a .flat) us (a .medium .now) (a .place) (h (not-false _ (c .before .before .before .before .before .before .before .before .before .before .before .if1 .left))) (a .buffer .now) w p)));
       keeps = λ e. never (sym e ∙ ap (λ (q : Quick). q .done) (c .done .ensures));
     }
 
 sub-moved-on : tie.Need-sub-moved-on
 sub-moved-on c =
     let a = c .before .before .before .before .before .before .before .before .before .before .before .before .before .args in
-    let w = c .before .before .before .before .before .before .before .before .before .reads-on .ensures (not-false _ (c .before .before .before .before .before .before .before .before .if2 .left)) in
+    let w = reads _ _ _ _ (sym (c .before .before .before .before .before .before .before .before .before .reads-on .ensures) ∙ not-false _ (c .before .before .before .before .before .before .before .before .if2 .left)) in
     let d = reads-due _ _ _ _ w in
     let i = c .before .before .before .before .before .before .before .before .before .before .before .before .before .pre (not-false _ (c .before .before .before .before .before .before .before .before .before .before .if1 .left)) in
     omega (arith, d .due, w .packet)
@@ -92,7 +92,7 @@ sub-moved-on c =
 add-moved-on : tie.Need-add-moved-on
 add-moved-on c =
     let a = c .before .before .before .before .before .before .before .before .before .before .before .before .before .args in
-    let w = c .before .before .before .before .before .before .before .before .before .reads-on .ensures (not-false _ (c .before .before .before .before .before .before .before .before .if2 .left)) in
+    let w = reads _ _ _ _ (sym (c .before .before .before .before .before .before .before .before .before .reads-on .ensures) ∙ not-false _ (c .before .before .before .before .before .before .before .before .if2 .left)) in
     let d = reads-due _ _ _ _ w in
     let i = c .before .before .before .before .before .before .before .before .before .before .before .before .before .pre (not-false _ (c .before .before .before .before .before .before .before .before .before .before .if1 .left)) in
     record { fits = omega (arith, d .within, w .packet, i .1) }
@@ -100,7 +100,7 @@ add-moved-on c =
 sub-moved-on-2 : tie.Need-sub-moved-on-2
 sub-moved-on-2 c =
     let a = c .before .before .before .before .before .before .before .before .before .before .before .before .before .args in
-    let w = c .before .before .before .before .before .before .before .before .before .reads-on .ensures (not-false _ (c .before .before .before .before .before .before .before .before .if2 .left)) in
+    let w = reads _ _ _ _ (sym (c .before .before .before .before .before .before .before .before .before .reads-on .ensures) ∙ not-false _ (c .before .before .before .before .before .before .before .before .if2 .left)) in
     let d = reads-due _ _ _ _ w in
     let i = c .before .before .before .before .before .before .before .before .before .before .before .before .before .pre (not-false _ (c .before .before .before .before .before .before .before .before .before .before .if1 .left)) in
     omega (arith, w .packet)
@@ -117,10 +117,10 @@ same-length-3 c = search needs
 returns-4 : tie.Need-returns-4
 returns-4 c =
     let a = c .before .before .before .before .before .before .before .before .before .before .before .before .before .before .before .args in
-    let w = c .before .before .before .before .before .before .before .before .before .before .before .reads-on .ensures (not-false _ (c .before .before .before .before .before .before .before .before .before .before .if2 .left)) in
+    let w = reads _ _ _ _ (sym (c .before .before .before .before .before .before .before .before .before .before .before .reads-on .ensures) ∙ not-false _ (c .before .before .before .before .before .before .before .before .before .before .if2 .left)) in
     let e : 512 * a .place .first + a .flat .place + 64 - (512 * a .place .first + a .flat .place) ≡ 64 = add-sub-cancel-left _ _ in
     record {
-      answers = λ _ us h p. simp (c .done2 .ensures, c .before .moved-on2 .ensures, c .before .before .before .before .before .before .put-packet .ensures, e) (sym (quick-in (a .given) (a .flat) us (a .medium .now) (a .place) (h (not-false _ (c .before .before .before .before .before .before .before .before .before .before .before .before .if1 .left))) (a .buffer .now) w (omega (arith, w .packet, c .before .before .before .if3 .left)) p));
+      answers = λ _ us h p. simp (c .done2 .ensures, c .before .moved-on2 .ensures, c .before .before .before .before .before .before .put-packet .ensures, e) (sym (rw (read-more (a .flat) (c .before .before .before .if3 .left)) at (quick-in (a .given) (a .flat) us (a .medium .now) (a .place) (h (not-false _ (c .before .before .before .before .before .before .before .before .before .before .before .before .if1 .left))) (a .buffer .now) w p)));
       keeps = λ e. never (sym e ∙ ap (λ (q : Quick). q .done) (c .done2 .ensures));
     }
 

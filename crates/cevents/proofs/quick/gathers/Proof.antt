@@ -1,6 +1,7 @@
 -- `gathers` meets its contract. Assumes nothing.
 use mathlib.Core.Path.{sym, _∙_}
 use borrow.Author.Tests.{not-false, eqb-true}
+use Rattle.cevents.proofs.Due.{free}
 use Rattle.cevents.proofs.Never.{never}
 use borrow.Author.Needs.{needs}
 use Rattle.cevents.proofs.quick.gathers.Statement.{statement}
@@ -31,7 +32,7 @@ returns-6 : tie.Need-returns-6
 returns-6 c =
     λ _.
     record {
-      free = c .before .before .before .before .before .before .before .is-free .ensures (not-false _ (c .before .before .before .before .before .before .if1 .left));
+      free = free _ _ (sym (c .before .before .before .before .before .before .before .is-free .ensures) ∙ not-false _ (c .before .before .before .before .before .before .if1 .left));
       stage = c .before .before .before .before .before .if2 .left;
       some = c .before .before .before .if4 .left;
       last = λ z. absurd (c .if6 .taken z);
@@ -43,7 +44,7 @@ returns-7 : tie.Need-returns-7
 returns-7 c =
     λ e.
     record {
-      free = c .before .before .before .before .before .before .before .is-free .ensures (not-false _ (c .before .before .before .before .before .before .if1 .left));
+      free = free _ _ (sym (c .before .before .before .before .before .before .before .is-free .ensures) ∙ not-false _ (c .before .before .before .before .before .before .if1 .left));
       stage = c .before .before .before .before .before .if2 .left;
       some = c .before .before .before .if4 .left;
       last = λ _. eqb-true _ _ e;

@@ -1,4 +1,6 @@
 -- `passes` meets its contract. Assumes nothing.
+use mathlib.Core.Path.{sym, _∙_}
+use Rattle.cevents.proofs.Due.{free}
 use Rattle.cevents.proofs.Never.{never}
 use borrow.Author.Needs.{needs}
 use Rattle.cevents.proofs.quick.passes.Statement.{statement}
@@ -29,7 +31,7 @@ returns-7 : tie.Need-returns-7
 returns-7 c =
     λ e.
     record {
-      free = c .is-free .ensures e;
+      free = free _ _ (sym (c .is-free .ensures) ∙ e);
       stage = c .before .before .before .before .before .before .if1 .left;
       place = c .before .before .before .before .before .if2 .left;
       none = c .before .before .before .before .if3 .left;

@@ -1,5 +1,6 @@
 -- `alone_in` meets its contract. Assumes nothing.
 use mathlib.Core.List.{[], _∷_}
+use Rattle.cevents.proofs.Places.{placed-whole}
 use Rattle.cevents.proofs.Ways.{in-medium}
 use borrow.Author.Needs.{needs}
 use Rattle.cevents.proofs.turn.alone_in.Statement.{statement}
@@ -12,14 +13,14 @@ quick-in-requires : tie.Need-quick-in-requires
 quick-in-requires c κs =
     λ e.
     let a = c .before .before .before .before .args in
-    in-medium (a .given) (a .flat) (a .unit ∷ []) (a .medium .now) (c .before .place-alone .result) (c .before .place-alone .ensures e)
+    in-medium (a .given) (a .flat) (a .unit ∷ []) (a .medium .now) (c .before .place-alone .result) (placed-whole _ _ _ _ (c .before .place-alone .ensures) e)
 
 same-length : tie.Need-same-length
 same-length c = search needs
 
 returns : tie.Need-returns
 returns c =
-    λ p. c .before .before .before .before .before .quick-in .ensures .answers (c .before .before .if1 .taken) (c .before .before .before .before .before .before .before .before .before .before .args .unit ∷ []) (c .before .before .before .before .before .before .before .place-alone .ensures) p
+    λ p. c .before .before .before .before .before .quick-in .ensures .answers (c .before .before .if1 .taken) (c .before .before .before .before .before .before .before .before .before .before .args .unit ∷ []) (placed-whole _ _ _ _ (c .before .before .before .before .before .before .before .place-alone .ensures)) p
 
 copied-requires : tie.Need-copied-requires
 copied-requires c κs = search needs

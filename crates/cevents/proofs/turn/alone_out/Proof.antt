@@ -1,5 +1,6 @@
 -- `alone_out` meets its contract. Assumes nothing.
 use mathlib.Core.List.{[], _∷_}
+use Rattle.cevents.proofs.Places.{placed-whole}
 use borrow.Author.Needs.{needs}
 use Rattle.cevents.proofs.turn.alone_out.Statement.{statement}
 use Rattle.cevents.proofs.turn.alone_out.Tie as tie
@@ -18,7 +19,7 @@ same-length c = search needs
 
 returns : tie.Need-returns
 returns c =
-    c .before .before .before .before .before .before .quick-out .ensures .answers (c .before .before .before .if1 .taken) (c .before .before .before .before .before .before .before .before .before .before .before .before .args .unit ∷ []) (c .before .before .before .before .before .before .before .before .before .place-alone .ensures)
+    c .before .before .before .before .before .before .quick-out .ensures .answers (c .before .before .before .if1 .taken) (c .before .before .before .before .before .before .before .before .before .before .before .before .args .unit ∷ []) (placed-whole _ _ _ _ (c .before .before .before .before .before .before .before .before .before .place-alone .ensures))
 
 alone-requires-2 : tie.Need-alone-requires-2
 alone-requires-2 c κs = search needs

@@ -1,5 +1,6 @@
 -- `turn_out` meets its contract. Assumes nothing.
 use Rattle.units.specs.Held.{tableOf}
+use Rattle.cevents.proofs.Places.{placed-whole}
 use borrow.Author.Needs.{needs}
 use Rattle.cevents.proofs.turn.turn_out.Statement.{statement}
 use Rattle.cevents.proofs.turn.turn_out.Tie as tie
@@ -15,7 +16,7 @@ same-length c = search needs
 
 returns : tie.Need-returns
 returns c =
-    c .before .before .before .before .before .quick-out .ensures .answers (c .before .before .if1 .taken) (tableOf (c .before .before .before .before .before .before .before .before .before .before .before .args .units)) (c .before .before .before .before .before .before .before .before .place-among .ensures)
+    c .before .before .before .before .before .quick-out .ensures .answers (c .before .before .if1 .taken) (tableOf (c .before .before .before .before .before .before .before .before .before .before .before .args .units)) (placed-whole _ _ _ _ (c .before .before .before .before .before .before .before .before .place-among .ensures))
 
 any-out-requires : tie.Need-any-out-requires
 any-out-requires c κs = search needs
