@@ -7,18 +7,31 @@ use native.Mathlib.Omega.{arith}
 use lib.Dec.{leb}
 use lib.ListN.{length}
 use borrow.Author.Tests.{leb-true, leb-false}
+use Rattle.wire.specs.Choice.{if_then_else_, _and_}
+use Rattle.wire.proofs.Cases.{both, and-false, if-false}
 use Rattle.usb.specs.declared.descriptor.Identity.{Identity}
-use Rattle.machine.specs.Units.{Table, unitAt}
+use Rattle.machine.specs.Units.{Table, unitAt, inTable}
 use Rattle.machine.specs.Machine.{Event}
 use Rattle.units.specs.declared.table.Units.{Units}
 use Rattle.units.specs.Held.{heldOf, tableOf, putBack}
 use Rattle.units.proofs.Held.{held, length-table}
 use Rattle.crecord.specs.declared.record.Record.{Record}
 use Rattle.crecord.specs.declared.record.Told.{Told}
+use Rattle.crecord.specs.declared.record.Shown.{Shown}
+use Rattle.crecord.specs.Flat.{rec}
 use Rattle.cevents.specs.Events.{Left, left, onRecord, LeftMade, leftMade, onMaking, kept}
+use Rattle.cevents.specs.Shown.{leftShown, showOnRecord, leftReply, replyOnRecord}
 use Rattle.capi.specs.Table.{keptOne}
-use Rattle.cevents.proofs.Turns.{beyond}
+use Rattle.cevents.specs.declared.place.Place.{Place}
+use Rattle.cevents.specs.declared.showing.QuickShow.{QuickShow}
+use Rattle.cevents.specs.Ways.{nowhere, placeIn}
+use Rattle.cevents.specs.Quick.{quickShow}
+use Rattle.cevents.proofs.Never.{never}
+use Rattle.cevents.proofs.Places.{placed-whole}
+use Rattle.cevents.proofs.Shown.{quick-shows}
+use Rattle.cevents.proofs.Turns.{unlaid, beyond}
 use Rattle.cevents.proofs.Making.{beyond-made}
+use Rattle.cevents.proofs.ShownTurns.{beyond-shown, beyond-reply}
 
 -- Up to four units are held whole. Of more the first four are held: where a store leaves the units that are held as they were, it leaves the table.
 module _ (us : Table) where
@@ -83,3 +96,46 @@ module _ (i : Identity) (us : Table) (m : List ℕ) (t : Told) (r' : Record) (c 
       let q = said ∙ beyond-made i (seen us) m k in
       let s = same us c h l (ap (λ (x : LeftMade). x .units) q) in
       (λ j. leftMade (q j .told) (q j .rec) (s j)) ∙ sym (beyond-made i us m l))
+
+-- ---- a showing call, and the record's reply
+
+module _ (r : Record) (us : Table) (m s : List ℕ) where
+  pub over-shown : (t : Shown) (r' : Record) → leftShown t r' (seen us) m ≡ showOnRecord r (seen us) m s → leftShown t r' us m ≡ showOnRecord r us m s
+  over-shown t r' said =
+      by-size us (λ w. subst (λ (vs : Table). leftShown t r' vs m ≡ showOnRecord r vs m s) w said)
+      (λ l k.
+      let q = said ∙ sym (beyond-shown r (seen us) m s k) in
+      (λ i. leftShown (q i .shown) (q i .rec) us m) ∙ beyond-shown r us m s l)
+
+  pub over-reply : (t : Told) (b : List ℕ) → leftReply t b ≡ replyOnRecord r (seen us) m s → leftReply t b ≡ replyOnRecord r us m s
+  over-reply t b said =
+      by-size us (λ w. subst (λ (vs : Table). leftReply t b ≡ replyOnRecord r vs m s) w said) (λ l k. said ∙ sym (beyond-reply r (seen us) m s k) ∙ beyond-reply r us m s l)
+
+-- ---- a place in a table
+
+no-place : (us : Table) (n m : ℕ) → 4 < length us → placeIn us n m ≡ nowhere
+unfolding placeIn _and_
+no-place us n m h = if-false _ _ _ (ap (λ (b : Bool). inTable n us and b) (simp (unlaid us h)) ∙ and-false (inTable n us))
+
+pub over-place : (us : Table) (n m : ℕ) → placeIn (seen us) n m ≡ placeIn us n m
+over-place us n m = by-size us (ap (λ (vs : Table). placeIn vs n m)) (λ l k. no-place (seen us) n m k ∙ sym (no-place us n m l))
+
+pub over-one-place : (us : Table) (n m : ℕ) → length us ≡ 1 → placeIn (unitAt us 0 ∷ []) n m ≡ placeIn us n m
+over-one-place us n m e = ap (λ (vs : Table). placeIn vs n m) (one us e)
+
+-- ---- the quick way of a showing call
+
+chosen : (b : Bool) (x y : QuickShow) → y .done ≡ false → (if b then x else y) .done ≡ true → b ≡ true
+unfolding if_then_else_
+chosen true x y n e = refl
+chosen false x y n e = never (sym n ∙ e)
+
+module _ (r : Record) (us : Table) (m s : List ℕ) (place : Place) (ep : place ≡ placeIn us (r .flat .lun) (length m)) where
+  pub quickly : (q : QuickShow) → q ≡ quickShow (r .given) (r .flat) place (length s) → q .done ≡ true
+      → leftShown (q .shown) (rec (r .given) (q .flat) (r .part)) us m ≡ showOnRecord r us m s
+  unfolding quickShow
+  quickly q e d =
+      let z = sym (ap (λ (x : QuickShow). x .done) e) ∙ d in
+      let w = both _ _ (chosen _ _ _ refl z) .0 in
+      subst (λ (x : QuickShow). leftShown (x .shown) (rec (r .given) (x .flat) (r .part)) us m ≡ showOnRecord r us m s) (sym e)
+      (quick-shows (r .given) (r .flat) us m place (placed-whole us (r .flat .lun) (length m) place ep w) s z (r .part))

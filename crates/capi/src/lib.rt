@@ -7,10 +7,15 @@ ghost use mathlib.Core.List.{List, []};
 ghost use Rattle.machine.specs.Machine.{busReset, bulkOut, bulkIn, setSwitch};
 ghost use Rattle.machine.specs.Machine as machines;
 ghost use Rattle.cevents.specs.Events.{left, onRecord, leftMade, onMaking};
+ghost use Rattle.cevents.specs.Shown.{leftShown, showOnRecord, leftReply, replyOnRecord};
+use crate::place::place_in;
 use crate::table::load;
 use crate::table::pick;
 use crate::table::settle;
 use crate::table::settle_one;
+use cevents::show::turn_reply;
+use cevents::show::turn_show;
+use cevents::showing::quick_show;
 use cevents::turn::alone_in;
 use cevents::turn::alone_out;
 use cevents::turn::turn_control;
@@ -21,9 +26,11 @@ use cevents::turn::turn_reset;
 use cevents::turn::turn_switch;
 use crecord::record::Given;
 use crecord::record::Record;
+use crecord::record::Shown;
 use crecord::record::Told;
 use machine::record::LogicalUnit;
 
+mod place;
 mod table;
 
 // A collector of these numbers over the table and the medium; a refused making leaves a record of zeros, and the table as it
@@ -143,4 +150,36 @@ pub extern "C" fn collector_bulk_in(
     let turn = turn_in(held.given, held.flat, units, medium, buffer);
     held.flat = turn.flat;
     turn.told
+}
+
+// The next packet of data on bulk-in, shown where it stands. A whole packet of a read needs neither the table by value nor the
+// record decoded; for all else both are read anew.
+#[no_mangle]
+pub extern "C" fn collector_show(
+    held: &mut Record,
+    table: &[LogicalUnit],
+    medium: &[u8],
+    reply: &[u8],
+) -> Shown
+    ensures { λ r. ⌜ leftShown r (now (held .exit)) (now (table .entry)) (now (medium .entry)) ≡ showOnRecord (now (held .entry)) (now (table .entry)) (now (medium .entry)) (now (reply .entry)) ⌝ }
+{
+    let place = place_in(table, held.flat.lun, medium.len());
+    let quick = quick_show(held.given, held.flat, place, reply.len());
+    if quick.done {
+        held.flat = quick.flat;
+        return quick.shown;
+    }
+    let units = load(table);
+    let turn = turn_show(held.given, held.flat, units, medium, reply);
+    held.flat = turn.flat;
+    turn.shown
+}
+
+// The record's reply, for a showing call to be lent it.
+#[no_mangle]
+pub extern "C" fn collector_reply(held: &Record, table: &[LogicalUnit], buffer: &mut [u8]) -> Told
+    ensures { λ r. ⌜ ((m : List ℕ) → leftReply r (now (buffer .exit)) ≡ replyOnRecord (now (held .entry)) (now (table .entry)) m (now (buffer .entry))) ⌝ }
+{
+    let units = load(table);
+    turn_reply(held.given, held.flat, units, buffer)
 }
