@@ -2,9 +2,11 @@
  * The collector's USB drive: the device end of Bulk-Only mass storage, one to four logical units of 512-byte blocks.
  *
  * The controller's driver calls one function for each thing that happens on the bus, and does on the wire what the
- * answer's number says. One more function tells the device where a unit's write switch is. The state is in the caller's
- * record and in the caller's table of units, all blocks are in the caller's medium; the library has no variables of its
- * own, allocates nothing, waits for nothing and calls nothing but memcpy and memset.
+ * answer's number says. For a packet that the host asks for there are two: collector_bulk_in copies it to a buffer,
+ * collector_show says where it stands. One more function tells the device where a unit's write switch is, and one tells
+ * the caller the reply that is being sent. The state is in the caller's record and in the caller's table of units, all
+ * blocks are in the caller's medium; the library has no variables of its own, allocates nothing, waits for nothing and
+ * calls nothing but memcpy and memset.
  * The functions are proved against the specification in crates/machine; "document 01", as the change requests in
  * docs/requests amend it, is its text.
  *
@@ -29,13 +31,14 @@ extern "C" {
 #define COLLECTOR_SETUP_SIZE 8u
 
 /* An answer's number: what to do on the wire. */
-#define COLLECTOR_DATA 0u           /* send the buffer's first `count` bytes; 0 bytes are an empty packet */
+#define COLLECTOR_DATA 0u           /* send the buffer's first `count` bytes, or those shown; 0 are an empty packet */
 #define COLLECTOR_ACK 1u            /* taken: acknowledge; for a control request, its status stage */
 #define COLLECTOR_NAK 2u            /* not now: the host tries again */
 #define COLLECTOR_STALL 3u          /* answer STALL */
 #define COLLECTOR_SILENT 4u         /* answer nothing: a bulk event on a device that is not configured */
 /* A number from 10 on is a refusal: the call was at fault, not the host. */
-#define COLLECTOR_BAD_RECORD 10u    /* record and table do not fit together, or the switch's position is over 1 */
+#define COLLECTOR_BAD_RECORD 10u    /* record and table do not fit together, the switch's position is over 1, or the
+                                       reply lent to collector_show is not the record's */
 #define COLLECTOR_BAD_MEDIUM 11u    /* the medium's length is not 512 times the sum of the units' blocks */
 #define COLLECTOR_SHORT_BUFFER 12u  /* answer buffer under 64 bytes */
 #define COLLECTOR_LONG_PACKET 13u   /* bulk-out packet over 64 bytes */
@@ -66,6 +69,11 @@ extern "C" {
    medium. */
 #define COLLECTOR_SWITCH_OPEN 0u    /* as made */
 #define COLLECTOR_SWITCH_CLOSED 1u
+
+/* Where a packet stands that collector_show shows. */
+#define COLLECTOR_SOURCE_NONE 0u    /* there is none */
+#define COLLECTOR_SOURCE_MEDIUM 1u
+#define COLLECTOR_SOURCE_REPLY 2u
 
 #define COLLECTOR_UNIT_SIZE 20
 #define COLLECTOR_UNIT_ALIGN 4
@@ -123,6 +131,14 @@ typedef struct collector_answer {
     size_t count;           /* COLLECTOR_DATA: the bytes written to the buffer; else 0 */
 } collector_answer;
 
+/* The answer of collector_show. collector_packet makes a pointer of it. */
+typedef struct collector_shown {
+    uint32_t number;        /* as collector_answer's */
+    uint32_t source;        /* COLLECTOR_DATA: COLLECTOR_SOURCE_MEDIUM or _REPLY; else COLLECTOR_SOURCE_NONE */
+    size_t start;           /* COLLECTOR_DATA: where the packet begins, in the medium or in the reply; else 0 */
+    size_t count;           /* COLLECTOR_DATA: its bytes, 1 to 64; else 0 */
+} collector_shown;
+
 #ifdef __cplusplus
 #define COLLECTOR_LAYOUT(fact) static_assert(fact, #fact)
 #define COLLECTOR_ALIGN_OF(type) alignof(type)
@@ -144,6 +160,11 @@ COLLECTOR_LAYOUT(COLLECTOR_ALIGN_OF(collector_record) == COLLECTOR_RECORD_ALIGN)
 COLLECTOR_LAYOUT(offsetof(collector_record, unit) == 47);
 COLLECTOR_LAYOUT(offsetof(collector_record, part) == 48);
 COLLECTOR_LAYOUT(sizeof(collector_answer) == 16);
+COLLECTOR_LAYOUT(sizeof(collector_shown) == 24);
+COLLECTOR_LAYOUT(COLLECTOR_ALIGN_OF(collector_shown) == 8);
+COLLECTOR_LAYOUT(offsetof(collector_shown, source) == 4);
+COLLECTOR_LAYOUT(offsetof(collector_shown, start) == 8);
+COLLECTOR_LAYOUT(offsetof(collector_shown, count) == 16);
 #undef COLLECTOR_LAYOUT
 #undef COLLECTOR_ALIGN_OF
 
@@ -151,8 +172,9 @@ COLLECTOR_LAYOUT(sizeof(collector_answer) == 16);
  * What the caller keeps true, for every call:
  * - each pointer is valid for its length (the table's: for its units, of which no more than the first four are read) and
  *   not null, also where the length is 0;
- * - what the call may write (the record, the table of all but collector_bulk_in, the medium of collector_bulk_out, a
- *   buffer) overlaps nothing else lent to it;
+ * - what the call may write (the record of all but collector_reply; the table of all but collector_bulk_in,
+ *   collector_show and collector_reply; the medium of collector_bulk_out; a buffer) overlaps nothing else lent to it.
+ *   What it only reads may overlap: medium and reply of collector_show too;
  * - no two calls run at once on one record, on one table or on one medium;
  * - record, table and medium belong together: the table that the record was made with is lent to each event, with as
  *   many units, and nobody else writes it; the medium is lent to each bulk event. The caller may read all three at any
@@ -240,6 +262,46 @@ collector_answer collector_bulk_out(collector_record *record, collector_unit *un
  */
 collector_answer collector_bulk_in(collector_record *record, const collector_unit *units, size_t unit_count,
                                    const uint8_t *medium, size_t medium_len, uint8_t *buffer, size_t buffer_len);
+
+/*
+ * The host asks for a packet on bulk-in: as collector_bulk_in, but for data alone, and without a copy. A packet of a Read
+ * is shown where it stands in the medium, that of a reply where it stands in `reply`. The number, the bytes and what
+ * becomes of the record are those of collector_bulk_in: a packet counts as sent once it is shown. It is in the caller's
+ * own memory, and stays what it is until the caller changes the medium or the reply, by collector_bulk_out or otherwise.
+ * Table, medium and reply are read only.
+ * The reply must be the record's. In stages 3 to 6 and 10 that is the whole reply to the command in hand, as its
+ * allocation length cuts it: the first place + left bytes of the reply's data. In every other stage, with a status due
+ * too, it is empty: a length of 0. collector_reply gives it.
+ *   COLLECTOR_BAD_RECORD   also where the reply has another length or other bytes than the record's
+ *   COLLECTOR_BAD_MEDIUM
+ *   COLLECTOR_SILENT       not configured
+ *   COLLECTOR_STALL        bulk-in is halted; nothing changes
+ *   COLLECTOR_NAK          no data is due; a status wrapper may be, which collector_bulk_in hands out
+ *   COLLECTOR_DATA         a packet of data, 1 to 64 bytes: they are the `count` bytes at `start` of its source
+ * A firmware need not know what is due, nor keep a reply. It shows first, with a reply of length 0, which is right for
+ * every Read. Where the answer is not COLLECTOR_DATA, nothing has changed: it then calls collector_bulk_in, which answers
+ * everything else, a reply, a status, a halt.
+ */
+collector_shown collector_show(collector_record *record, const collector_unit *units, size_t unit_count,
+                               const uint8_t *medium, size_t medium_len, const uint8_t *reply, size_t reply_len);
+
+/* The packet that is shown, of the medium and the reply that were lent. Only where the number is COLLECTOR_DATA. */
+static inline const uint8_t *collector_packet(collector_shown shown, const uint8_t *medium, const uint8_t *reply)
+{
+    return (shown.source == COLLECTOR_SOURCE_REPLY ? reply : medium) + shown.start;
+}
+
+/*
+ * The record's reply, as collector_show wants it: for a caller that has replies shown too. It is no event: nothing
+ * changes but the buffer, and there is nothing to do on the wire. The reply stays the same from the command wrapper until
+ * its packet is sent, whatever is halted or cleared and wherever a switch is moved.
+ *   COLLECTOR_BAD_RECORD
+ *   COLLECTOR_SHORT_BUFFER
+ *   COLLECTOR_DATA         the reply: the buffer's first `count` bytes; its others stay. 0 bytes where none is being sent,
+ *                          on a device that is not configured too
+ */
+collector_answer collector_reply(const collector_record *record, const collector_unit *units, size_t unit_count,
+                                 uint8_t *buffer, size_t buffer_len);
 
 /*
  * This unit's write switch is at this position, COLLECTOR_SWITCH_OPEN or COLLECTOR_SWITCH_CLOSED: sets it in the table and
