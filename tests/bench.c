@@ -51,6 +51,14 @@ uint32_t number_of(collector_answer answer)
     return answer.number;
 }
 
+uint32_t number_shown(collector_shown shown)
+{
+    const bool none = shown.source == COLLECTOR_SOURCE_NONE && shown.start == 0 && shown.count == 0;
+
+    CHECK(shown.number == COLLECTOR_DATA || none);
+    return shown.number;
+}
+
 uint32_t reset(bench *bench)
 {
     return number_of(collector_bus_reset(&bench->record, &bench->unit, 1));
@@ -82,6 +90,17 @@ size_t data_in(bench *bench)
 uint32_t ask(bench *bench)
 {
     return number_of(collector_bulk_in(&bench->record, &bench->unit, 1, bench->medium, MEDIUM, bench->buffer, 64));
+}
+
+uint32_t show(bench *bench, const void *reply, size_t length)
+{
+    return number_shown(
+        collector_show(&bench->record, &bench->unit, 1, bench->medium, MEDIUM, (const uint8_t *)reply, length));
+}
+
+uint32_t tell_reply(bench *bench)
+{
+    return number_of(collector_reply(&bench->record, &bench->unit, 1, bench->buffer, 64));
 }
 
 uint32_t turn_switch(bench *bench, uint8_t position)

@@ -30,8 +30,9 @@ bool same_unit(const collector_unit *a, const collector_unit *b);
 bool same(const bench *a, const bench *b);
 bool filled(const uint8_t *bytes, size_t length, uint8_t value);
 
-/* An answer's number; its count must be 0 unless it is data. */
+/* An answer's number; its count must be 0 unless it is data. So must all that is shown. */
 uint32_t number_of(collector_answer answer);
+uint32_t number_shown(collector_shown shown);
 
 /* A fresh device, then also a configured one: number 42, vendor 1209 hex, product 1, release 0100 hex. */
 void make(bench *bench);
@@ -42,6 +43,8 @@ uint32_t reset(bench *bench);
 uint32_t control(bench *bench, const char *setup);
 uint32_t send_packet(bench *bench, const void *packet, size_t length);
 uint32_t ask(bench *bench);
+uint32_t show(bench *bench, const void *reply, size_t length);
+uint32_t tell_reply(bench *bench);
 uint32_t turn_switch(bench *bench, uint8_t position);
 
 /* Asks for data, which must come; gives back its count. The rest of the buffer must stay. */

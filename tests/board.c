@@ -187,6 +187,10 @@ void board_refused(const board *damaged)
     EQUAL(board_control(&board, GET_MAX_LUN), COLLECTOR_BAD_RECORD);
     EQUAL(board_send(&board, board.buffer, 64), COLLECTOR_BAD_RECORD);
     EQUAL(board_ask(&board), COLLECTOR_BAD_RECORD);
+    EQUAL(number_shown(collector_show(&board.record, table_of(&board), board.count, medium_of(&board), board.length,
+                                      board.buffer, 0)),
+          COLLECTOR_BAD_RECORD);
+    EQUAL(number_of(collector_reply(&board.record, table_of(&board), board.count, board.buffer, 64)), COLLECTOR_BAD_RECORD);
     EQUAL(board_switch(&board, COLLECTOR_SWITCH_OPEN, 0), COLLECTOR_BAD_RECORD);
     EQUAL(board_switch(&board, COLLECTOR_SWITCH_CLOSED, UNITS - 1), COLLECTOR_BAD_RECORD);
     EQUAL(board_switch(&board, COLLECTOR_SWITCH_CLOSED, 255), COLLECTOR_BAD_RECORD);

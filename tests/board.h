@@ -57,7 +57,7 @@ void board_reply(board *board, uint8_t unit, const char *block, const void *data
 /* Brings a configured device to this stage of a command for this unit. */
 void board_reach(board *board, uint8_t unit, unsigned stage);
 
-/* All five events refuse record and table, and change nothing. */
+/* Every call refuses record and table, and changes nothing. */
 void board_refused(const board *damaged);
 
 #endif

@@ -9,6 +9,7 @@
 #include "records.h"
 #include "refused_block.h"
 #include "several_units.h"
+#include "showing.h"
 #include "tables.h"
 #include "write_switch.h"
 
@@ -25,6 +26,8 @@ static void layout(void)
     EQUAL(sizeof(collector_answer), 16);
     EQUAL(offsetof(collector_answer, number), 0);
     EQUAL(offsetof(collector_answer, count), 8);
+    EQUAL(sizeof(collector_shown), 24);
+    EQUAL(_Alignof(collector_shown), 8);
 #define IN(type, field, place, size)            \
     EQUAL(offsetof(type, field), place);        \
     EQUAL(sizeof((type *)0)->field, size)
@@ -57,6 +60,12 @@ static void layout(void)
     AT(sense_information, 12, 4);
     AT(write_switch, 16, 1);
     AT(reserved1, 17, 3);
+#undef AT
+#define AT(field, place, size) IN(collector_shown, field, place, size)
+    AT(number, 0, 4);
+    AT(source, 4, 4);
+    AT(start, 8, 8);
+    AT(count, 16, 8);
 #undef AT
 #undef IN
 }
@@ -369,6 +378,12 @@ int main(void)
     tables_kept();
     worked_ledger();
     random_ledgers();
+    shown_reads();
+    shown_replies();
+    shown_in_each_stage();
+    lent_replies();
+    replies_of_records();
+    shown_and_copied();
     printf("interface: %u checks passed\n", checks);
     return 0;
 }

@@ -6,8 +6,8 @@
 
 #include "several_units.h"
 
-#include "board.h"
 #include "records.h"
+#include "showing.h"
 
 #include <signal.h>
 #include <stdlib.h>
@@ -86,6 +86,7 @@ static uint32_t event_of(board *board, unsigned event)
         "\x82\x00\x00\x00\x02\x00\x02\x00",     /* Get Status */
     };
     const unsigned count = sizeof setups / sizeof setups[0];
+    uint8_t reply[COLLECTOR_PACKET_SIZE];
 
     if (event < count)
         return board_control(board, setups[event]);
@@ -96,8 +97,12 @@ static uint32_t event_of(board *board, unsigned event)
         return board_send(board, board->medium, 64);
     case 2:
         return board_send(board, board->medium, board->record.stage == COLLECTOR_STAGE_DATA_OUT ? 64 : 4);
+    case 3:
+        return board_show(board, NO_REPLY).number;
+    case 4:
+        return board_show(board, reply, reply_of(board, reply)).number;
     default:
-        return refused_event(board, event - count - 3);
+        return refused_event(board, event - count - 5);
     }
 }
 

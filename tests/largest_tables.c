@@ -4,7 +4,7 @@
  */
 #include "tables.h"
 
-#include "board.h"
+#include "showing.h"
 #include "store.h"
 
 #include <stdlib.h>
@@ -42,7 +42,7 @@ static void other_lengths(board *board)
     }
 }
 
-/* Two blocks of the unit, written and read back, and where they then stand in the medium. */
+/* Two blocks of the unit, written and read back, copied and shown, and where they then stand in the medium. */
 static void expect_blocks(board *board, uint8_t unit, uint32_t block, uint8_t value)
 {
     const size_t place = unit * unit_size + (size_t)COLLECTOR_BLOCK_SIZE * block;
@@ -56,12 +56,17 @@ static void expect_blocks(board *board, uint8_t unit, uint32_t block, uint8_t va
     }
     board_status(board, 0, 0);
     CHECK(filled(board->medium_apart + place, 1024, value));
-    board_blocks(board, unit, READ, block, 2, 1024);
-    for (uint32_t asked = 0; asked < 2 * ROWS; asked++) {
-        EQUAL(board->record.place, COLLECTOR_BLOCK_SIZE * block + 64 * asked);
-        board_data(board, packet, sizeof packet);
+    for (int shown = 0; shown < 2; shown++) {
+        board_blocks(board, unit, READ, block, 2, 1024);
+        for (uint32_t asked = 0; asked < 2 * ROWS; asked++) {
+            EQUAL(board->record.place, COLLECTOR_BLOCK_SIZE * block + 64 * asked);
+            if (shown)
+                expect_shown(board, NO_REPLY, COLLECTOR_SOURCE_MEDIUM, place + 64 * asked, 64);
+            else
+                board_data(board, packet, sizeof packet);
+        }
+        board_status(board, 0, 0);
     }
-    board_status(board, 0, 0);
 }
 
 /* The first two blocks and the last two of each unit; one more is outside. No other byte of the medium changes. */

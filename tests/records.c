@@ -83,6 +83,8 @@ void refused(const bench *damaged)
     EQUAL(control(&bench, SET_CONFIGURATION), COLLECTOR_BAD_RECORD);
     EQUAL(send_packet(&bench, bench.buffer, 64), COLLECTOR_BAD_RECORD);
     EQUAL(ask(&bench), COLLECTOR_BAD_RECORD);
+    EQUAL(show(&bench, "", 0), COLLECTOR_BAD_RECORD);
+    EQUAL(tell_reply(&bench), COLLECTOR_BAD_RECORD);
     EQUAL(turn_switch(&bench, COLLECTOR_SWITCH_OPEN), COLLECTOR_BAD_RECORD);
     EQUAL(turn_switch(&bench, COLLECTOR_SWITCH_CLOSED), COLLECTOR_BAD_RECORD);
     CHECK(same(&bench, damaged));

@@ -11,7 +11,7 @@ typedef struct bench bench;
 /* A device in each stage, and what its record then holds. */
 void reach(bench *bench, unsigned stage);
 
-/* The record is refused by all five events, which change nothing. */
+/* The record is refused by every call, and none changes anything. */
 void refused(const bench *damaged);
 
 void records_that_do_not_decode(void);

@@ -1,11 +1,12 @@
 /*
- * Record and table together (document 02, A7): in each stage of a command for each unit, all five events refuse a table that
- * does not fit and a unit beyond it, and change nothing. Then media that are not of the table's size.
+ * Record and table together (document 02, A7): in each stage of a command for each unit, every call refuses a table that
+ * does not fit and a unit beyond it, and changes nothing. Then media that are not of the table's size.
  */
 #include "tables.h"
 
 #include "board.h"
 #include "records.h"
+#include "showing.h"
 
 #include <string.h>
 
@@ -231,7 +232,11 @@ static void bad_media(const board *reached)
     for (size_t at = 0; at < sizeof bad / sizeof bad[0]; at++) {
         board board = *reached;
         collector_unit *units = board.units;
+        uint8_t reply[COLLECTOR_PACKET_SIZE];
+        const size_t length = reply_of(&board, reply);
 
+        EQUAL(number_shown(collector_show(&board.record, units, board.count, other, bad[at], reply, length)),
+              COLLECTOR_BAD_MEDIUM);
         for (size_t more = 0; more < 2; more++) {
             EQUAL(number_of(collector_bulk_out(&board.record, units, board.count, other, bad[at], packet, 64 + more)),
                   COLLECTOR_BAD_MEDIUM);
