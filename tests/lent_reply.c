@@ -82,12 +82,11 @@ static void expect_no_other(const board *reached, const char *bytes, size_t leng
 /* A reply cut to each length, with nothing more announced and with 28 bytes more. Sent, it is the record's no longer. */
 static void cut_reply(const struct told *told, size_t length, uint32_t more)
 {
-    board board = sending(told, length, (uint32_t)length + more), halted;
+    board board = sending(told, length, (uint32_t)length + more), halted = board;
 
     EQUAL(board.record.stage, length ? told->stage : COLLECTOR_STAGE_PASSED);
     expect_reply(&board, told->bytes, length);
     expect_no_other(&board, told->bytes, length);
-    halted = board;
     EQUAL(board_control(&halted, SET_IN), COLLECTOR_ACK);
     expect_reply(&halted, told->bytes, length);
     expect_no_other(&halted, told->bytes, length);
@@ -162,7 +161,7 @@ void lent_replies(void)
 /* The buffer is asked for after record and table, and not for more than 64 bytes; a refusal changes nothing. */
 static void reply_refused(const board *reached)
 {
-    uint8_t buffer[100], reply[COLLECTOR_PACKET_SIZE];
+    uint8_t buffer[COLLECTOR_PACKET_SIZE], reply[COLLECTOR_PACKET_SIZE];
     board board = *reached;
 
     memset(buffer, FILL, sizeof buffer);
@@ -172,8 +171,7 @@ static void reply_refused(const board *reached)
     }
     CHECK(filled(buffer, sizeof buffer, FILL));
     CHECK(same_board(&board, reached));
-    EQUAL(collector_reply(&board.record, board.units, board.count, buffer, COLLECTOR_PACKET_SIZE).count,
-          reply_of(&board, reply));
+    EQUAL(collector_reply(&board.record, board.units, board.count, buffer, sizeof buffer).count, reply_of(&board, reply));
 }
 
 /* Every stage, and a device that is not configured: where no reply is being sent, none is the record's. */
@@ -190,7 +188,7 @@ void replies_of_records(void)
         board_configure(&board, UNITS);
         board_reach(&board, UNIT, stage);
         reply_refused(&board);
-        if ((COLLECTOR_STAGE_REQUEST_SENSE <= stage && stage <= COLLECTOR_STAGE_READ_CAPACITY) || stage == COLLECTOR_STAGE_PAGE)
+        if (sends_reply(stage))
             continue;
         expect_reply(&board, "", 0);
         expect_no_other(&board, "", 0);

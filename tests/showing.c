@@ -5,6 +5,12 @@
 
 #include <string.h>
 
+bool sends_reply(unsigned stage)
+{
+    return (COLLECTOR_STAGE_REQUEST_SENSE <= stage && stage <= COLLECTOR_STAGE_READ_CAPACITY) ||
+           stage == COLLECTOR_STAGE_PAGE;
+}
+
 collector_shown board_show(board *board, const void *reply, size_t length)
 {
     const struct board before = *board;

@@ -9,6 +9,9 @@
 /* The reply that is lent where none is being sent: of no bytes. */
 #define NO_REPLY "", 0
 
+/* Whether a reply is being sent in this stage. */
+bool sends_reply(unsigned stage);
+
 /* Asks for the next packet to be shown, with this reply lent. What is shown lies in the medium or in the reply; nothing but the
  * record changes, and that only with data. */
 collector_shown board_show(board *board, const void *reply, size_t length);

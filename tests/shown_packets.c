@@ -144,8 +144,7 @@ static void expect_stage_shown(const board *reached, uint32_t number)
 void shown_in_each_stage(void)
 {
     for (unsigned stage = COLLECTOR_STAGE_READY; stage < STAGES; stage++) {
-        const bool data = (COLLECTOR_STAGE_DATA_IN <= stage && stage <= COLLECTOR_STAGE_READ_CAPACITY) ||
-                          stage == COLLECTOR_STAGE_PAGE;
+        const bool data = stage == COLLECTOR_STAGE_DATA_IN || sends_reply(stage);
         board board;
 
         board_configure(&board, UNITS);
