@@ -25,6 +25,10 @@ typedef enum controller_event {
     CONTROLLER_OFF      /* the cable was pulled */
 } controller_event;
 
+/* The memory that the hardware reads by itself. Data in it is sent from where it stands, and must stay until the next event; other
+   data is copied to the hardware first. */
+void controller_memory(const uint8_t *memory, size_t size);
+
 /* Waits for the next event. */
 controller_event controller_poll(void);
 

@@ -16,6 +16,9 @@ static collector_unit units[UNITS] = {
 };
 static uint8_t medium[(NORTH_BLOCKS + SOUTH_BLOCKS) * COLLECTOR_BLOCK_SIZE];
 
+/* No reply is kept here. */
+static const uint8_t no_reply[1];
+
 /* False for a refusal: not the host but this program is at fault. */
 static bool hand_over(controller_endpoint endpoint, collector_answer answer, const uint8_t *buffer)
 {
@@ -40,6 +43,21 @@ static bool hand_over(controller_endpoint endpoint, collector_answer answer, con
     }
 }
 
+/* The host asks for a packet. Of a Read it is handed over where it stands in the medium; everything else is copied. */
+static bool send_packet(void)
+{
+    uint8_t buffer[COLLECTOR_PACKET_SIZE];
+    collector_answer answer;
+    const collector_shown shown = collector_show(&record, units, UNITS, medium, sizeof medium, no_reply, 0);
+
+    if (shown.number == COLLECTOR_DATA) {
+        controller_data(CONTROLLER_BULK_IN, collector_packet(shown, medium, no_reply), shown.count);
+        return true;
+    }
+    answer = collector_bulk_in(&record, units, UNITS, medium, sizeof medium, buffer, sizeof buffer);
+    return hand_over(CONTROLLER_BULK_IN, answer, buffer);
+}
+
 static bool serve(controller_event event)
 {
     uint8_t packet[CONTROLLER_PACKET_SIZE];
@@ -62,8 +80,7 @@ static bool serve(controller_event event)
         answer = collector_bulk_out(&record, units, UNITS, medium, sizeof medium, packet, length);
         return hand_over(CONTROLLER_BULK_OUT, answer, buffer);
     case CONTROLLER_IN:
-        answer = collector_bulk_in(&record, units, UNITS, medium, sizeof medium, buffer, sizeof buffer);
-        return hand_over(CONTROLLER_BULK_IN, answer, buffer);
+        return send_packet();
     default:
         return false;
     }
@@ -89,6 +106,7 @@ int main(void)
     if (collector_make(&record, number, vendor, product, release, units, UNITS, medium, sizeof medium).number !=
         COLLECTOR_ACK)
         return 1;
+    controller_memory(medium, sizeof medium);
     while ((event = controller_poll()) != CONTROLLER_OFF)
         if (!follow_switches() || !serve(event))
             return 1;

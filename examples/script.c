@@ -1,6 +1,6 @@
 /*
  * The script: a host finds the collector of firmware.c, with a district's unit each for north and south, writes and reads both,
- * and meets their switches. The answers are those that documents 01 and 02 prescribe.
+ * and meets their switches. The answers are those that documents 01 and 02 prescribe; a Read's data is sent from the medium, uncopied.
  */
 #include "script.h"
 
@@ -13,6 +13,7 @@
 #define OUT(bytes) CONTROLLER_OUT, BYTES(bytes)
 #define ASK CONTROLLER_IN, NONE
 #define SENDS(bytes) DATA, BYTES(bytes)
+#define SHOWS(bytes) DATA_IN_PLACE, BYTES(bytes)
 #define ACKS ACK, NONE
 #define NAKS NAK, NONE
 #define STALLS STALL, NONE
@@ -140,24 +141,24 @@ const step script[] = {
     {"its status", ASK, PASSED("\x0D")},
 
     {"Read south's block 5", READ("\x0E", SOUTH, "\x05"), ACKS},
-    {"Read's packet 1", ASK, SENDS(ROW("A"))},
-    {"Read's packet 2", ASK, SENDS(ROW("B"))},
-    {"Read's packet 3", ASK, SENDS(ROW("C"))},
-    {"Read's packet 4", ASK, SENDS(ROW("D"))},
-    {"Read's packet 5", ASK, SENDS(ROW("E"))},
-    {"Read's packet 6", ASK, SENDS(ROW("F"))},
-    {"Read's packet 7", ASK, SENDS(ROW("G"))},
-    {"Read's packet 8", ASK, SENDS(ROW("H"))},
+    {"Read's packet 1", ASK, SHOWS(ROW("A"))},
+    {"Read's packet 2", ASK, SHOWS(ROW("B"))},
+    {"Read's packet 3", ASK, SHOWS(ROW("C"))},
+    {"Read's packet 4", ASK, SHOWS(ROW("D"))},
+    {"Read's packet 5", ASK, SHOWS(ROW("E"))},
+    {"Read's packet 6", ASK, SHOWS(ROW("F"))},
+    {"Read's packet 7", ASK, SHOWS(ROW("G"))},
+    {"Read's packet 8", ASK, SHOWS(ROW("H"))},
     {"Read's status", ASK, PASSED("\x0E")},
     {"Read north's block 5", READ("\x0F", NORTH, "\x05"), ACKS},
-    {"Read's packet 1", ASK, SENDS(ROW("1"))},
-    {"Read's packet 2", ASK, SENDS(ROW("2"))},
-    {"Read's packet 3", ASK, SENDS(ROW("3"))},
-    {"Read's packet 4", ASK, SENDS(ROW("4"))},
-    {"Read's packet 5", ASK, SENDS(ROW("5"))},
-    {"Read's packet 6", ASK, SENDS(ROW("6"))},
-    {"Read's packet 7", ASK, SENDS(ROW("7"))},
-    {"Read's packet 8", ASK, SENDS(ROW("8"))},
+    {"Read's packet 1", ASK, SHOWS(ROW("1"))},
+    {"Read's packet 2", ASK, SHOWS(ROW("2"))},
+    {"Read's packet 3", ASK, SHOWS(ROW("3"))},
+    {"Read's packet 4", ASK, SHOWS(ROW("4"))},
+    {"Read's packet 5", ASK, SHOWS(ROW("5"))},
+    {"Read's packet 6", ASK, SHOWS(ROW("6"))},
+    {"Read's packet 7", ASK, SHOWS(ROW("7"))},
+    {"Read's packet 8", ASK, SHOWS(ROW("8"))},
     {"Read's status", ASK, PASSED("\x0F")},
 
     {"Read south's block 32, past its end", READ("\x10", SOUTH, "\x20"), ACKS},

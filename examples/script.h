@@ -6,7 +6,8 @@
 
 #include "controller.h"
 
-typedef enum outcome { NOTHING, DATA, ACK, NAK, STALL, SILENCE } outcome;
+/* Data is copied to the controller, or sent from where it stands in the memory that the controller reads by itself. */
+typedef enum outcome { NOTHING, DATA, DATA_IN_PLACE, ACK, NAK, STALL, SILENCE } outcome;
 
 /* A line of the script that is no event: somebody moves a write switch. An event follows it. */
 enum { SWITCH = CONTROLLER_OFF + 1 };

@@ -12,6 +12,8 @@ static size_t next;                 /* the step before it is under way */
 static size_t told;                 /* the firmware knows the switches that the steps before it moved */
 static bool answered = true;
 static uint8_t address, expected_address;
+static const uint8_t *memory;       /* what the firmware lets the controller read by itself */
+static size_t memory_size;
 
 static void fail(const char *what)
 {
@@ -43,6 +45,12 @@ static void end_step(const step *step)
         fail("wrong address");
 }
 
+void controller_memory(const uint8_t *start, size_t size)
+{
+    memory = start;
+    memory_size = size;
+}
+
 controller_event controller_poll(void)
 {
     if (next > 0)
@@ -69,7 +77,7 @@ size_t controller_read(controller_endpoint endpoint, uint8_t *packet)
 
 static void handed_over(controller_endpoint endpoint, outcome outcome, const uint8_t *data, size_t length)
 {
-    static const char *const names[] = {"nothing", "data", "ack", "nak", "stall", "silence"};
+    static const char *const names[] = {"nothing", "data", "data in place", "ack", "nak", "stall", "silence"};
     const step *step = &script[next - 1];
 
     if (answered)
@@ -83,9 +91,16 @@ static void handed_over(controller_endpoint endpoint, outcome outcome, const uin
     answered = true;
 }
 
+static bool in_memory(const uint8_t *data, size_t length)
+{
+    const uintptr_t start = (uintptr_t)memory, place = (uintptr_t)data;
+
+    return start <= place && place + length <= start + memory_size;
+}
+
 void controller_data(controller_endpoint endpoint, const uint8_t *data, size_t length)
 {
-    handed_over(endpoint, DATA, data, length);
+    handed_over(endpoint, in_memory(data, length) ? DATA_IN_PLACE : DATA, data, length);
 }
 
 void controller_ack(controller_endpoint endpoint)
