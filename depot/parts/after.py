@@ -25,6 +25,7 @@ def look(folder, results, peer, controller, wrong):
     count, differences = judge.differences(folder)
     results.check("answers-of-document-01", not differences, differences[0] if differences else "%d events" % count)
     results.check("seen-on-the-bus", *census.verdict(log.read(events), controller == "xhci"))
+    results.check("reads-shown", *census.shown(log.read(events)))
 
     recording, expected = bench.make(folder)
     environment = dict(os.environ, **({"DEPOT_WRONG": wrong} if wrong else {}))

@@ -120,6 +120,15 @@ def count(entries):
     return seen
 
 
+def shown(entries):
+    """Whether the packets of Reads were shown where they stand, and no others (document 02, A11). They are the packets of 64 bytes: no
+    reply is so long."""
+    asks = [entry for entry in entries if isinstance(entry, log.Event) and entry.kind == 4 and entry.data]
+    wrong = ["%.3f s: %d bytes %s" % (ask.time, len(ask.data), "shown" if ask.shown else "copied") for ask in asks if ask.shown != (len(ask.data) == 64)]
+    count = sum(ask.shown for ask in asks)
+    return bool(count and not wrong), wrong[0] if wrong else "%d packets shown, %d copied" % (count, len(asks) - count)
+
+
 def verdict(entries, probed):
     seen = count(entries)
     least = {**LEAST, **LEAST_WITH_PROBE} if probed else LEAST

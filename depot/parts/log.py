@@ -4,8 +4,9 @@ from collections import namedtuple
 KINDS = {"reset": 1, "setup": 2, "out": 3, "in": 4, "switch": 5}
 POSITIONS = ["open", "closed"]  # of a switch (document 02, A4), by number
 
-# kind and body as in a recording; word is the answer's (ack, nak, stall, silent, data, refused), data its bytes.
-Event = namedtuple("Event", "time kind body word data")
+# kind and body as in a recording; word is the answer's (ack, nak, stall, silent, data, refused), data its bytes; shown says that they
+# stand in the medium and were not copied (document 02, A11).
+Event = namedtuple("Event", "time kind body word data shown")
 # What happened beside the device's events: `words` as the peer wrote them.
 Note = namedtuple("Note", "time words")
 
@@ -36,7 +37,9 @@ def read(path):
             event, _, answer = rest.partition(" -> ")
             (name, *body), (word, *data) = event.split(" "), answer.split(" ")
             body = turn(body) if name == "switch" else octets(body)
-            yield Event(float(time), KINDS[name], body, word, octets(data) if word == "data" else b"")
+            shown = word == "shown"
+            word = "data" if shown else word
+            yield Event(float(time), KINDS[name], body, word, octets(data) if word == "data" else b"", shown)
 
 
 def sizes(note):

@@ -88,7 +88,9 @@ impl Bus {
             Answer::Data(bytes) => (Status::Success, bytes),
             Answer::Ack => (Status::Success, vec![]),
             Answer::Stall => (Status::Stall, vec![]),
-            Answer::Nak | Answer::Silent | Answer::Refused { .. } => (Status::IoError, vec![]),
+            Answer::Shown(_) | Answer::Nak | Answer::Silent | Answer::Refused { .. } => {
+                (Status::IoError, vec![])
+            }
         }
     }
 
@@ -151,7 +153,9 @@ impl Bus {
                 }
                 Answer::Nak => return None,
                 Answer::Stall => return Some(Status::Stall),
-                Answer::Data(_) | Answer::Silent | Answer::Refused { .. } => return Some(Status::IoError),
+                Answer::Data(_) | Answer::Shown(_) | Answer::Silent | Answer::Refused { .. } => {
+                    return Some(Status::IoError)
+                }
             }
             if transfer.done == transfer.asked.data.len() {
                 return Some(Status::Success);
@@ -163,7 +167,7 @@ impl Bus {
     fn ask(&mut self, transfer: &mut Transfer, log: &mut Log) -> Option<Status> {
         loop {
             match self.put(Event::In, log) {
-                Answer::Data(bytes) => {
+                Answer::Data(bytes) | Answer::Shown(bytes) => {
                     transfer.data.extend(&bytes);
                     transfer.done += bytes.len();
                     if bytes.len() < PACKET || transfer.done >= transfer.asked.length {

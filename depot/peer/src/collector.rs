@@ -1,76 +1,14 @@
-//! The collector's C interface: one device over its units and one medium, the four events of its bus, and its switches.
+//! The collector behind its C interface: one device over its units and one medium, the four events of its bus, and its switches.
 
+use crate::capi::{
+    collector_bulk_in, collector_bulk_out, collector_bus_reset, collector_control, collector_make,
+    collector_set_switch, collector_show, Record, RECORD, SOURCE_MEDIUM,
+};
 use crate::switch::Turn;
 use crate::unit::{self, Unit};
 
 /// The packets' size: document 01 has no other.
 pub const PACKET: usize = 64;
-
-/// COLLECTOR_RECORD_SIZE.
-const RECORD: usize = 560;
-
-/// `collector_record`. Its fields are the device's own; here only its size and alignment count.
-#[repr(C, align(8))]
-struct Record([u8; RECORD]);
-
-/// `collector_answer`, which comes back by value.
-#[repr(C)]
-struct RawAnswer {
-    number: u32,
-    count: usize,
-}
-
-const _: () =
-    assert!(size_of::<Record>() == RECORD && align_of::<Record>() == 8 && size_of::<RawAnswer>() == 16);
-
-extern "C" {
-    fn collector_make(
-        record: *mut Record,
-        number: u64,
-        vendor: u16,
-        product: u16,
-        release: u16,
-        units: *mut Unit,
-        unit_count: usize,
-        medium: *const u8,
-        medium_len: usize,
-    ) -> RawAnswer;
-    fn collector_bus_reset(record: *mut Record, units: *mut Unit, unit_count: usize) -> RawAnswer;
-    fn collector_control(
-        record: *mut Record,
-        units: *mut Unit,
-        unit_count: usize,
-        setup: *const u8,
-        setup_len: usize,
-        buffer: *mut u8,
-        buffer_len: usize,
-    ) -> RawAnswer;
-    fn collector_bulk_out(
-        record: *mut Record,
-        units: *mut Unit,
-        unit_count: usize,
-        medium: *mut u8,
-        medium_len: usize,
-        packet: *const u8,
-        packet_len: usize,
-    ) -> RawAnswer;
-    fn collector_bulk_in(
-        record: *mut Record,
-        units: *const Unit,
-        unit_count: usize,
-        medium: *const u8,
-        medium_len: usize,
-        buffer: *mut u8,
-        buffer_len: usize,
-    ) -> RawAnswer;
-    fn collector_set_switch(
-        record: *mut Record,
-        units: *mut Unit,
-        unit_count: usize,
-        position: u8,
-        unit: u8,
-    ) -> RawAnswer;
-}
 
 /// The numbers given at making.
 #[derive(Clone, Copy, Default)]
@@ -94,6 +32,8 @@ pub enum Event<'a> {
 #[derive(Clone, PartialEq, Eq)]
 pub enum Answer {
     Data(Vec<u8>),
+    /// A packet of a Read, which the device has shown where it stands in the medium (document 02, A11).
+    Shown(Vec<u8>),
     Ack,
     Nak,
     Stall,
@@ -146,7 +86,43 @@ impl Collector {
         self.medium
     }
 
+    /// Has the device show the packet that the host asks for. It is lent no reply, so that it can show a Read's alone. None: it
+    /// showed nothing and nothing has changed; whatever is due is to be copied.
+    fn show(&mut self) -> Option<Answer> {
+        let record = &mut *self.record as *mut Record;
+        let (units, medium, no_reply) = (&self.units, &self.medium, []);
+        // SAFETY: as of `call`. What is shown is looked at while the medium cannot change.
+        let shown = unsafe {
+            collector_show(
+                record,
+                units.as_ptr(),
+                units.len(),
+                medium.as_ptr(),
+                medium.len(),
+                no_reply.as_ptr(),
+                no_reply.len(),
+            )
+        };
+        if shown.number != 0 {
+            return None;
+        }
+        let packet = medium.get(shown.start..).and_then(|rest| rest.get(..shown.count));
+        Some(match packet {
+            Some(packet @ [_, ..]) if shown.source == SOURCE_MEDIUM && packet.len() <= PACKET => {
+                Answer::Shown(packet.to_vec())
+            }
+            _ => Answer::Refused { number: 0, count: shown.count },
+        })
+    }
+
     pub fn event(&mut self, event: &Event) -> Answer {
+        match event {
+            Event::In => self.show().unwrap_or_else(|| self.call(event)),
+            _ => self.call(event),
+        }
+    }
+
+    fn call(&mut self, event: &Event) -> Answer {
         let mut buffer = [0u8; PACKET];
         let record = &mut *self.record as *mut Record;
         let (units, count) = (self.units.as_mut_ptr(), self.units.len());

@@ -35,6 +35,7 @@ pub fn answer_text(answer: &Answer) -> String {
     match answer {
         Answer::Data(bytes) if bytes.is_empty() => "data none".into(),
         Answer::Data(bytes) => format!("data{}", hex(bytes)),
+        Answer::Shown(bytes) => format!("shown{}", hex(bytes)),
         Answer::Ack => "ack".into(),
         Answer::Nak => "nak".into(),
         Answer::Stall => "stall".into(),

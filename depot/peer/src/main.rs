@@ -14,6 +14,7 @@
 //! An order is answered with one line on standard output: `done`, or `failed` and why.
 
 mod bus;
+mod capi;
 mod collector;
 mod log;
 mod medium;

@@ -42,7 +42,7 @@ fn parse(bytes: &[u8]) -> Option<Vec<Event<'_>>> {
 
 fn printed(answer: &Answer) -> String {
     match answer {
-        Answer::Data(bytes) => format!(
+        Answer::Data(bytes) | Answer::Shown(bytes) => format!(
             "data {}{}",
             bytes.len(),
             bytes.iter().map(|byte| format!(" {byte:02X}")).collect::<String>()

@@ -1,8 +1,8 @@
-//! The six functions of the C interface over the ordinary device.
+//! The functions of the C interface that the peer calls, over the ordinary device.
 
-use crate::device::{Answer, Device, Identity, Refusal};
+use crate::device::{Answer, Device, Identity, Refusal, PACKET};
 use crate::fault;
-use crate::record::Record;
+use crate::record::{stage, Record};
 use crate::scsi::Sense;
 use crate::unit::{Unit, MAX_UNITS};
 use std::slice::{from_raw_parts, from_raw_parts_mut};
@@ -12,6 +12,25 @@ use std::slice::{from_raw_parts, from_raw_parts_mut};
 pub struct CAnswer {
     pub number: u32,
     pub count: usize,
+}
+
+/// `collector_shown` of the C header.
+#[repr(C)]
+pub struct CShown {
+    pub number: u32,
+    pub source: u32,
+    pub start: usize,
+    pub count: usize,
+}
+
+impl CShown {
+    /// COLLECTOR_NAK: nothing is shown.
+    pub const NONE: CShown = CShown { number: 2, source: 0, start: 0, count: 0 };
+
+    /// COLLECTOR_DATA, in COLLECTOR_SOURCE_MEDIUM.
+    fn in_medium(start: usize, count: usize) -> CShown {
+        CShown { number: 0, source: 1, start, count }
+    }
 }
 
 impl From<Answer> for CAnswer {
@@ -129,12 +148,46 @@ pub unsafe extern "C" fn collector_bulk_in(
     buffer_len: usize,
 ) -> CAnswer {
     let units: &[Unit] = table(units.cast_mut(), unit_count);
-    let (medium, buffer) = (from_raw_parts(medium, medium_len), from_raw_parts_mut(buffer, buffer_len));
+    ask(record, units, from_raw_parts(medium, medium_len), from_raw_parts_mut(buffer, buffer_len))
+}
+
+fn ask(record: &mut Record, units: &[Unit], medium: &[u8], buffer: &mut [u8]) -> CAnswer {
     let before = *record;
     let answer = fault::send(&before, units, medium, |units, medium| {
         event(record, |device| device.bulk_in(units, medium, buffer))
     });
     fault::bulk_in(&before, record, units, medium, buffer, answer)
+}
+
+/// A Read's packet. All else the peer has copied, whatever number it gets here: a status, a reply, which it does not lend, and
+/// bytes of a fault's making, which stand nowhere.
+///
+/// # Safety
+/// As of `collector_make`.
+#[no_mangle]
+pub unsafe extern "C" fn collector_show(
+    record: &mut Record,
+    units: *const Unit,
+    unit_count: usize,
+    medium: *const u8,
+    medium_len: usize,
+    _reply: *const u8,
+    reply_len: usize,
+) -> CShown {
+    assert!(reply_len == 0, "the peer lends no reply");
+    let units: &[Unit] = table(units.cast_mut(), unit_count);
+    let medium = from_raw_parts(medium, medium_len);
+    let (before, mut after, mut packet) = (*record, *record, [0; PACKET]);
+    let CAnswer { number, count } = ask(&mut after, units, medium, &mut packet);
+    if before.stage != stage::DATA_IN || number != 0 {
+        return CShown::NONE;
+    }
+    let start = units[usize::from(before.unit)].byte(before.place);
+    if medium[start..start + count] != packet[..count] {
+        return CShown::NONE;
+    }
+    *record = after;
+    fault::show(&before, record, medium_len, CShown::in_medium(start, count))
 }
 
 /// # Safety

@@ -5,6 +5,7 @@ mod information;
 mod kind;
 mod ledger;
 mod pages;
+mod shown;
 mod switch;
 mod units;
 
@@ -14,6 +15,7 @@ use crate::record::{flag, stage, Record};
 use crate::scsi::{code, control_place, Sense, REFUSED_CONTROL_BITS};
 use crate::unit::Unit;
 use kind::{chosen, Fault};
+pub use shown::show;
 use std::ops::Range;
 use std::sync::atomic::{AtomicBool, Ordering};
 use std::sync::Mutex;

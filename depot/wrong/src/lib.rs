@@ -1,4 +1,4 @@
-//! Wrong devices: the ordinary device of ../../rust behind the six functions of the C interface, with one fault.
+//! Wrong devices: the ordinary device of ../../rust behind the C interface, with one fault.
 //!
 //! The fault is named by the environment's DEPOT_WRONG; without it the device is right. A run of the depot that a fault does
 //! not fail does not look at what the fault breaks.

@@ -111,9 +111,15 @@ pub enum Fault {
     TagPhase,
     /// A Mass Storage Reset does not drop a status that is due.
     StatusKept,
+    /// A Read's packet is shown one byte further on (document 02, A11).
+    ShownFurther,
+    /// A packet that is shown is not counted as sent: the state is left behind, and the next one shown is the same.
+    ShownStays,
+    /// Nothing is ever shown: all is copied.
+    ShownNever,
 }
 
-const NAMES: [(&str, Fault); 54] = [
+const NAMES: [(&str, Fault); 57] = [
     ("none", Fault::None),
     ("digits", Fault::Digits),
     ("capacity", Fault::Capacity),
@@ -168,6 +174,9 @@ const NAMES: [(&str, Fault); 54] = [
     ("residue-phase", Fault::ResiduePhase),
     ("tag-phase", Fault::TagPhase),
     ("status-kept", Fault::StatusKept),
+    ("shown-further", Fault::ShownFurther),
+    ("shown-stays", Fault::ShownStays),
+    ("shown-never", Fault::ShownNever),
 ];
 
 /// The fault that the environment names.
