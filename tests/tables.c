@@ -191,9 +191,11 @@ static void expect_transfer(const board *reached, uint8_t unit, uint32_t place, 
     CHECK(same_board(&board, &before));
     EQUAL(board_switch(&board, COLLECTOR_SWITCH_OPEN, unit), COLLECTOR_ACK);
     CHECK(same_board(&board, &before));
-    if (!out && left > 0)
-        board_data(&board, board.medium + COLLECTOR_BLOCK_SIZE * (size_t)board.units[unit].first + place,
-                   left < 64 ? left : 64);
+    if (out || left == 0)
+        expect_unshown(&board, NO_REPLY, COLLECTOR_NAK);
+    else
+        expect_shown(&board, NO_REPLY, COLLECTOR_SOURCE_MEDIUM,
+                     COLLECTOR_BLOCK_SIZE * (size_t)board.units[unit].first + place, left < 64 ? left : 64);
 }
 
 static void transfers(const board *reached)
