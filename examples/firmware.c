@@ -16,7 +16,7 @@ static collector_unit units[UNITS] = {
 };
 static uint8_t medium[(NORTH_BLOCKS + SOUTH_BLOCKS) * COLLECTOR_BLOCK_SIZE];
 
-/* No reply is kept here. */
+/* Lent as the reply, with length 0: no reply is kept here. */
 static const uint8_t no_reply[1];
 
 /* False for a refusal: not the host but this program is at fault. */

@@ -1,6 +1,7 @@
 /*
  * The script: a host finds the collector of firmware.c, with a district's unit each for north and south, writes and reads both,
- * and meets their switches. The answers are those that documents 01 and 02 prescribe; a Read's data is sent from the medium, uncopied.
+ * and meets their switches. The answers are those that documents 01 and 02 prescribe. A Read's data is sent from the medium, not
+ * from a copy.
  */
 #include "script.h"
 
