@@ -42,11 +42,8 @@ impl Device {
         if buffer.len() < PACKET {
             return Answer::Refused(Refusal::Buffer);
         }
-        if !self.configured {
-            return Answer::Silent;
-        }
-        if self.halt_in {
-            return Answer::Stall;
+        if let Some(answer) = self.shut_in() {
+            return answer;
         }
         match self.stage {
             Stage::Status(status) => self.send_status(status, buffer),
@@ -99,7 +96,7 @@ impl Device {
     }
 
     /// The data is done: status is due, and a host that announced more is told by a halt of its pipe.
-    fn finish(&mut self, status: Status, data_in: bool) {
+    pub(crate) fn finish(&mut self, status: Status, data_in: bool) {
         if self.pending.residue > 0 {
             if data_in {
                 self.halt_in = true;
@@ -141,34 +138,6 @@ impl Device {
             self.finish(Status::Passed, false);
         }
         Answer::Ack
-    }
-
-    /// Hands out the next packet, from the medium as it now is or from the reply.
-    fn send_data(&mut self, units: &[Unit], medium: &[u8], buffer: &mut [u8]) -> Answer {
-        let Stage::DataIn { source, place, left: left @ 1.. } = &mut self.stage else {
-            return Answer::Nak;
-        };
-        let count = (*left).min(PACKET as u32);
-        let size = count as usize;
-        match source {
-            Source::Medium => {
-                let from = units[usize::from(self.pending.unit)].byte(*place);
-                // Nearly always: a copy of fixed size, without a call.
-                if size == PACKET {
-                    buffer[..PACKET].copy_from_slice(&medium[from..from + PACKET]);
-                } else {
-                    buffer[..size].copy_from_slice(&medium[from..from + size]);
-                }
-            }
-            Source::Reply(reply) => reply.write(&self.identity, *place as usize, &mut buffer[..size]),
-        }
-        *place += count;
-        *left -= count;
-        self.pending.residue -= count;
-        if *left == 0 {
-            self.finish(Status::Passed, true);
-        }
-        Answer::Data(count)
     }
 
     fn send_status(&mut self, status: Status, buffer: &mut [u8]) -> Answer {

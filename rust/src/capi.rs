@@ -15,6 +15,26 @@ pub struct CAnswer {
 
 const _: () = assert!(size_of::<CAnswer>() == 16 && align_of::<CAnswer>() == 8);
 
+/// `collector_shown` of the C header: where a packet stands in what was lent.
+#[repr(C)]
+#[derive(Clone, Copy, Debug, PartialEq, Eq)]
+pub struct CShown {
+    pub number: u32,
+    /// One of `source`'s numbers.
+    pub source: u32,
+    pub start: usize,
+    pub count: usize,
+}
+
+const _: () = assert!(size_of::<CShown>() == 24 && align_of::<CShown>() == 8);
+
+/// The numbers of what a shown packet stands in.
+pub mod source {
+    pub const NONE: u32 = 0;
+    pub const MEDIUM: u32 = 1;
+    pub const REPLY: u32 = 2;
+}
+
 unsafe extern "C" {
     fn collector_make(
         record: *mut Record,
@@ -55,6 +75,22 @@ unsafe extern "C" {
         buffer: *mut u8,
         buffer_len: usize,
     ) -> CAnswer;
+    fn collector_show(
+        record: *mut Record,
+        units: *const Unit,
+        unit_count: usize,
+        medium: *const u8,
+        medium_len: usize,
+        reply: *const u8,
+        reply_len: usize,
+    ) -> CShown;
+    fn collector_reply(
+        record: *const Record,
+        units: *const Unit,
+        unit_count: usize,
+        buffer: *mut u8,
+        buffer_len: usize,
+    ) -> CAnswer;
     fn collector_set_switch(
         record: *mut Record,
         units: *mut Unit,
@@ -64,7 +100,7 @@ unsafe extern "C" {
     ) -> CAnswer;
 }
 
-// SAFETY of all six calls: a slice's pointer is valid for its length and not null, exclusive where the callee
+// SAFETY of all eight calls: a slice's pointer is valid for its length and not null, exclusive where the callee
 // writes, and any bytes are a record and a unit.
 
 #[inline]
@@ -100,6 +136,18 @@ pub fn bulk_in(record: &mut Record, units: &[Unit], medium: &[u8], buffer: &mut 
     let (table, count) = (units.as_ptr(), units.len());
     let (bytes, size) = (medium.as_ptr(), medium.len());
     unsafe { collector_bulk_in(record, table, count, bytes, size, buffer.as_mut_ptr(), buffer.len()) }
+}
+
+#[inline]
+pub fn show(record: &mut Record, units: &[Unit], medium: &[u8], reply: &[u8]) -> CShown {
+    let (table, count) = (units.as_ptr(), units.len());
+    let (bytes, size) = (medium.as_ptr(), medium.len());
+    unsafe { collector_show(record, table, count, bytes, size, reply.as_ptr(), reply.len()) }
+}
+
+#[inline]
+pub fn reply(record: &Record, units: &[Unit], buffer: &mut [u8]) -> CAnswer {
+    unsafe { collector_reply(record, units.as_ptr(), units.len(), buffer.as_mut_ptr(), buffer.len()) }
 }
 
 #[inline]

@@ -11,10 +11,19 @@ use std::fmt;
 #[derive(Clone, Copy, Debug)]
 pub enum Event<'a> {
     BusReset,
-    Control { setup: &'a [u8] },
-    BulkOut { packet: &'a [u8] },
+    Control {
+        setup: &'a [u8],
+    },
+    BulkOut {
+        packet: &'a [u8],
+    },
     BulkIn,
-    Switch { position: u8, unit: u8 },
+    /// A showing call (document 02, A11): its bytes count as an ask's.
+    Show,
+    Switch {
+        position: u8,
+        unit: u8,
+    },
 }
 
 /// Document 01's numbers of the two answers that are booked.
@@ -114,7 +123,7 @@ impl Ledger {
             (Event::BusReset, ACK) => self.drop_command(),
             (Event::Control { setup }, ACK) if drops(setup) => self.drop_command(),
             (Event::BulkOut { packet }, ACK) => self.take(packet),
-            (Event::BulkIn, DATA) => self.hand_out(bytes),
+            (Event::BulkIn | Event::Show, DATA) => self.hand_out(bytes),
             (Event::Switch { position, unit }, ACK) => self.tally.set_switch(position, unit),
             _ => {}
         }

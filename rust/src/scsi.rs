@@ -70,7 +70,10 @@ pub enum Reply {
     Capacity(u32),
 }
 
-const INQUIRY: [u8; 36] = *b"\x00\x80\x05\x02\x1F\x00\x00\x00COLLECT METER EXPORT    0100";
+/// The most bytes of a reply: Inquiry's standard data.
+pub const LONGEST_REPLY: usize = 36;
+
+const INQUIRY: [u8; LONGEST_REPLY] = *b"\x00\x80\x05\x02\x1F\x00\x00\x00COLLECT METER EXPORT    0100";
 
 impl Reply {
     /// The whole reply's size, before any allocation length cuts it.

@@ -17,6 +17,7 @@ pub enum Told {
     Control([u8; 8]),
     BulkOut(Vec<u8>),
     BulkIn,
+    Show,
     Switch { position: u8, unit: u8 },
 }
 
@@ -39,6 +40,7 @@ impl Entry {
             Told::Control(setup) => Event::Control { setup },
             Told::BulkOut(packet) => Event::BulkOut { packet },
             Told::BulkIn => Event::BulkIn,
+            Told::Show => Event::Show,
             Told::Switch { position, unit } => Event::Switch { position: *position, unit: *unit },
         };
         ledger.note(event, self.number, &self.bytes);
@@ -51,6 +53,7 @@ impl Entry {
             Told::Control(setup) => bench.control(*setup).and(Err(Answer::Ack)),
             Told::BulkOut(packet) => Err(bench.send(packet)),
             Told::BulkIn => bench.ask(),
+            Told::Show => bench.shown(),
             Told::Switch { position, unit } => Err(bench.turn(*position, *unit)),
         };
         let number = answer.as_ref().map_or_else(|answer| answer.number(), |_| DATA);

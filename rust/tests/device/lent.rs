@@ -8,30 +8,34 @@ use ordinary::unit::{table, Unit};
 /// The blocks of the one unit that is lent where a test does not say which.
 pub const BLOCKS: u32 = 4;
 
-/// Whether the five events answer 10 with a fresh unit of four blocks.
+/// Whether the seven calls answer 10 with a fresh unit of four blocks.
 pub fn refused(record: &Record) -> bool {
     refused_with(record, &table(&[BLOCKS]))
 }
 
-/// Whether the five events answer 10 with this table, each on a device of its own, and then change nothing: all do or
-/// none does. A record that does not decode is number 10 too.
+/// Whether the seven calls answer 10 with this table, each on a device of its own, and then change nothing: all do or
+/// none does. The showing call is lent the record's reply, where one is given. A record that does not decode is number 10 too.
 pub fn refused_with(record: &Record, units: &[Unit]) -> bool {
     let Some(device) = Device::from_record(record) else { return true };
-    let mut each = [(); 5].map(|()| (device.clone(), units.to_vec()));
-    let [reset, control, out, asked, switched] = &mut each;
+    let mut each = [(); 7].map(|()| (device.clone(), units.to_vec()));
+    let [reset, control, out, asked, switched, shown, replied] = &mut each;
     let mut medium = vec![0; length(units)];
+    let mut buffer = [0; 64];
+    let reply = replied.0.reply(&replied.1, &mut buffer);
     let answers = [
         reset.0.bus_reset(&mut reset.1),
         control.0.control(&mut control.1, &[0x80, 0x08, 0, 0, 0, 0, 1, 0], &mut [0; 64]),
         out.0.bulk_out(&mut out.1, &mut medium, &[0; 31]),
         asked.0.bulk_in(&asked.1, &medium, &mut [0; 64]),
         switched.0.set_switch(&mut switched.1, 0, 0),
+        shown.0.show(&shown.1, &medium, &buffer[..reply.count() as usize]).answer,
+        reply,
     ];
     let refusals = answers.iter().filter(|answer| **answer == Answer::Refused(Refusal::Record)).count();
-    assert!([0, 5].contains(&refusals), "{answers:?}");
+    assert!([0, 7].contains(&refusals), "{answers:?}");
     let kept = |after: &(Device, Vec<Unit>)| (&after.0, &after.1[..]) == (&device, units);
     assert!(refusals == 0 || each.iter().all(kept), "{record:?}");
-    refusals == 5
+    refusals == 7
 }
 
 /// The bytes that an ask gives with a fresh unit of four blocks, and the record that it leaves.
