@@ -31,17 +31,19 @@ impl Account {
 /// Whether the device goes on by what the event was lent: one table is lent throughout, says the claim. Where nothing
 /// changes but the lock, it is as if that event had come with the own table.
 fn moves(event: &Event, number: u32) -> bool {
-    number == 1 || (number == 0 && matches!(event, Event::BulkIn { .. }))
+    number == 1 || (number == 0 && event.asks())
 }
 
-/// The event without what is lent to it; a making begins an account.
+/// The event without what is lent to it; a making begins an account. The call for the reply is none of the history: it
+/// changes nothing and hands nothing out.
 fn told(event: &Event) -> Option<ledger::Event<'_>> {
     Some(match event {
-        Event::Make { .. } => return None,
+        Event::Make { .. } | Event::Reply { .. } => return None,
         Event::BusReset => ledger::Event::BusReset,
         Event::Control { setup, .. } => ledger::Event::Control { setup },
         Event::BulkOut { packet, .. } => ledger::Event::BulkOut { packet },
         Event::BulkIn { .. } => ledger::Event::BulkIn,
+        Event::Show { .. } => ledger::Event::Show,
         Event::Switch { position, unit } => ledger::Event::Switch { position: *position, unit: *unit },
     })
 }

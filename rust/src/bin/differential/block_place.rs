@@ -45,7 +45,7 @@ impl BlockPlaces {
         let Record { place, left, .. } = before.record;
         let Some(unit) = before.own_unit() else { return };
         match (event, played.answer.number, before.stage) {
-            (Event::BulkIn { .. }, 0, stage::DATA_IN) => {
+            (event, 0, stage::DATA_IN) if event.asks() => {
                 self.note_served(READ, unit, place / BLOCK as u32, left / BLOCK as u32);
             }
             (Event::BulkOut { packet, .. }, 1, stage::DATA_OUT) if completes(before, packet) => {

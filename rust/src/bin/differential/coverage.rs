@@ -5,6 +5,7 @@ use crate::block_place::BlockPlaces;
 use crate::control_byte::{self, ControlBytes};
 use crate::event::{Event, KINDS};
 use crate::ledger_drop::LedgerDrops;
+use crate::ledger_show::LedgerShows;
 use crate::ledger_status::LedgerStatuses;
 use crate::medium_size::MediumSizes;
 use crate::page_field::PageFields;
@@ -13,6 +14,7 @@ use crate::product_page::ProductPages;
 use crate::refused_block::RefusedBlocks;
 use crate::sense_drop::SenseDrops;
 use crate::sense_history::SenseHistory;
+use crate::show_call::ShowCalls;
 use crate::state::State;
 use crate::switch_drop::SwitchDrops;
 use crate::switch_event::SwitchEvents;
@@ -38,6 +40,8 @@ const OWED: [&[usize]; KINDS.len()] = [
     &[1, 2, 3, 4, 10, 11, 13],
     &[0, 2, 3, 4, 10, 11, 12],
     &[1, 10, 18],
+    &[0, 2, 3, 4, 10, 11],
+    &[0, 10, 12],
 ];
 pub const COMMANDS: [(u8, &str); 9] = [
     (code::TEST_UNIT_READY, "Test Unit Ready"),
@@ -79,10 +83,12 @@ pub struct Coverage {
     unit_writes: UnitWrites,
     unit_switches: UnitSwitches,
     unit_media: UnitMedia,
+    show_calls: ShowCalls,
     /// The events under account.
     pub accounted: u64,
     ledger_drops: LedgerDrops,
     ledger_statuses: LedgerStatuses,
+    ledger_shows: LedgerShows,
     cases: [u64; 14],
     statuses: [u64; 3],
 }
@@ -112,6 +118,7 @@ impl Coverage {
         self.unit_writes.note(before, event, played);
         self.unit_switches.note(before, event, played);
         self.unit_media.note(before, event, played);
+        self.show_calls.note(before, event, played);
         match event {
             Event::BulkOut { packet, .. } if number == 1 && before.stage == stage::READY => {
                 self.note_wrapper(before, packet);
@@ -119,7 +126,7 @@ impl Coverage {
             Event::BulkIn { .. } if number == 0 && before.status_due() => {
                 self.statuses[usize::from(played.buffer[12])] += 1;
             }
-            Event::BulkIn { .. } if number == 0 && before.stage == stage::PRODUCT_PAGE => {
+            event if event.asks() && number == 0 && before.stage == stage::PRODUCT_PAGE => {
                 self.product_pages.note_sent(before);
             }
             _ => {}
@@ -131,6 +138,7 @@ impl Coverage {
         self.accounted += 1;
         self.ledger_drops.note(before, event, played);
         self.ledger_statuses.note(before, event, played);
+        self.ledger_shows.note(before, event, played);
     }
 
     fn note_wrapper(&mut self, before: &State, packet: &[u8]) {
@@ -194,8 +202,10 @@ impl Coverage {
         self.unit_writes.print();
         self.unit_switches.print();
         self.unit_media.print();
+        self.show_calls.print();
         self.ledger_drops.print();
         self.ledger_statuses.print();
+        self.ledger_shows.print();
         println!("\nthe thirteen meetings of host and device");
         for case in Case::ALL {
             println!("  {:>2} {:<18}{:>9}", case as usize, format!("{case:?}"), self.cases[case as usize]);
@@ -243,8 +253,10 @@ impl Coverage {
         missing.extend(self.unit_writes.missing());
         missing.extend(self.unit_switches.missing());
         missing.extend(self.unit_media.missing());
+        missing.extend(self.show_calls.missing());
         missing.extend(self.ledger_drops.missing());
         missing.extend(self.ledger_statuses.missing());
+        missing.extend(self.ledger_shows.missing());
         missing
     }
 }

@@ -1,16 +1,19 @@
 //! Records and tables that C may hand over but no event leaves: every byte of reached ones changed, and invented ones.
 
+use crate::ask;
 use crate::compare::{show, show_table};
 use crate::event::{Event, Lent, Step};
 use crate::host;
 use crate::invent::invent;
 use crate::large_media::LONGEST;
+use crate::lent_reply::LentReply;
 use crate::own::Own;
 use crate::page_record::PageRecords;
 use crate::pair::Pair;
 use crate::random::Random;
 use crate::requests;
 use crate::sense_record::SenseRecords;
+use crate::show_record::{self, ShowRecords};
 use crate::state::State;
 use crate::switch::{self, CLOSED, OPEN};
 use crate::switch_record::SwitchRecords;
@@ -45,6 +48,7 @@ pub struct Damage {
     pub pages: PageRecords,
     pub senses: SenseRecords,
     pub switches: SwitchRecords,
+    pub shows: ShowRecords,
 }
 
 impl Damage {
@@ -81,7 +85,7 @@ impl Damage {
         }
         for _ in 0..CHANGED_TABLES {
             let state = State { units: tables::changed(random, &reached.units), ..reached.clone() };
-            self.five(random, &mut pair, &state, own, Some(medium))?;
+            self.seven(random, &mut pair, &state, own, Some(medium))?;
         }
         for _ in 0..INVENTED {
             let state = invent(random, own);
@@ -108,7 +112,7 @@ impl Damage {
         }
     }
 
-    /// Changes a byte of a reached record or, behind it, of its table in some ways, then plays each of the five events on
+    /// Changes a byte of a reached record or, behind it, of its table in some ways, then plays each of the seven events on
     /// it. A reserved byte must not be looked at.
     fn change(
         &mut self,
@@ -123,13 +127,13 @@ impl Damage {
         let old = *byte(&mut state, at);
         for new in [old ^ 1 << random.below(8), old.wrapping_add(1), random.number() as u8] {
             *byte(&mut state, at) = new;
-            self.five(random, pair, &state, own, medium)?;
+            self.seven(random, pair, &state, own, medium)?;
         }
         Ok(())
     }
 
-    /// Plays each of the five events on a state.
-    fn five(
+    /// Plays each of the seven events on a state.
+    fn seven(
         &mut self,
         random: &mut Random,
         pair: &mut Pair,
@@ -137,7 +141,7 @@ impl Damage {
         own: &Own,
         medium: Option<&[u8]>,
     ) -> Result<(), String> {
-        for event in five_events(random, state, own) {
+        for event in seven_events(random, state, own) {
             pair.load(state);
             self.play(pair, state, event.clone())?;
             if let (Event::BulkOut { .. }, Some(medium)) = (&event, medium) {
@@ -147,7 +151,7 @@ impl Damage {
         Ok(())
     }
 
-    /// Plays each of the five events, a making and a short list of events on a state that was made up.
+    /// Plays each of the seven events, a making and a short list of events on a state that was made up.
     fn invented(
         &mut self,
         random: &mut Random,
@@ -155,7 +159,7 @@ impl Damage {
         state: &State,
         own: &Own,
     ) -> Result<(), String> {
-        self.five(random, pair, state, own, None)?;
+        self.seven(random, pair, state, own, None)?;
         pair.load(state);
         self.play(pair, state, Event::Make { identity: host::identity(random), medium: lent(own, state) })?;
         pair.load(state);
@@ -177,6 +181,10 @@ impl Damage {
         let played = pair.play(&step).map_err(tell)?;
         let event = &step.event;
         self.events += 1;
+        self.shows.note(before, event, &played);
+        if show_record::lent_other(before, event, &played) {
+            return Ok(());
+        }
         self.tables.note(before, event, &played);
         match event {
             Event::Make { .. } => return Ok(()),
@@ -216,13 +224,15 @@ fn lent(own: &Own, state: &State) -> Lent {
     }
 }
 
-fn five_events(random: &mut Random, state: &State, own: &Own) -> [Event; 5] {
+fn seven_events(random: &mut Random, state: &State, own: &Own) -> [Event; 7] {
     let (setup, medium) = (requests::known(random), lent(own, state));
     [
         Event::BusReset,
         host::control(random, setup),
         Event::BulkOut { medium, packet: host::packet(random, state, own) },
-        Event::BulkIn { medium, buffer: host::buffer(random) },
+        Event::BulkIn { medium, buffer: ask::buffer(random) },
+        Event::Show { medium, reply: LentReply::some(random) },
+        ask::reply(random),
         Event::Switch { position: random.pick(&[OPEN, CLOSED]), unit: switch::unit(random, state) },
     ]
 }

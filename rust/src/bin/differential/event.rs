@@ -1,7 +1,9 @@
 //! An event with all that is lent to it, so that a list of events can be played again.
 
 use crate::compare::show_table;
+use crate::lent_reply::LentReply;
 use ordinary::device::Identity;
+use ordinary::record::Record;
 use ordinary::unit::Unit;
 use std::fmt;
 
@@ -26,6 +28,8 @@ pub enum Event {
     Control { setup: Vec<u8>, buffer: Buffer },
     BulkOut { medium: Lent, packet: Vec<u8> },
     BulkIn { medium: Lent, buffer: Buffer },
+    Show { medium: Lent, reply: LentReply },
+    Reply { buffer: Buffer },
     Switch { position: u8, unit: u8 },
 }
 
@@ -43,7 +47,8 @@ impl Step {
     }
 }
 
-pub const KINDS: [&str; 6] = ["make", "bus reset", "control", "bulk-out", "bulk-in", "switch"];
+pub const KINDS: [&str; 8] =
+    ["make", "bus reset", "control", "bulk-out", "bulk-in", "switch", "show", "reply"];
 
 impl Event {
     /// Its kind's place in `KINDS`.
@@ -55,21 +60,39 @@ impl Event {
             Event::BulkOut { .. } => 3,
             Event::BulkIn { .. } => 4,
             Event::Switch { .. } => 5,
+            Event::Show { .. } => 6,
+            Event::Reply { .. } => 7,
         }
+    }
+
+    /// Whether it asks for bulk-in data, copied or shown.
+    pub fn asks(&self) -> bool {
+        matches!(self, Event::BulkIn { .. } | Event::Show { .. })
     }
 
     pub fn medium(&self) -> Lent {
         match *self {
-            Event::Make { medium, .. } | Event::BulkOut { medium, .. } | Event::BulkIn { medium, .. } => {
-                medium
-            }
-            Event::BusReset | Event::Control { .. } | Event::Switch { .. } => Lent::Own,
+            Event::Make { medium, .. }
+            | Event::BulkOut { medium, .. }
+            | Event::BulkIn { medium, .. }
+            | Event::Show { medium, .. } => medium,
+            Event::BusReset | Event::Control { .. } | Event::Reply { .. } | Event::Switch { .. } => Lent::Own,
+        }
+    }
+
+    /// The reply lent with a record; empty where the event is lent none.
+    pub fn reply(&self, record: &Record) -> Vec<u8> {
+        match self {
+            Event::Show { reply, .. } => reply.bytes(record),
+            _ => vec![],
         }
     }
 
     pub fn buffer(&self) -> Option<Buffer> {
         match *self {
-            Event::Control { buffer, .. } | Event::BulkIn { buffer, .. } => Some(buffer),
+            Event::Control { buffer, .. } | Event::BulkIn { buffer, .. } | Event::Reply { buffer } => {
+                Some(buffer)
+            }
             _ => None,
         }
     }
@@ -105,6 +128,8 @@ impl fmt::Display for Event {
             Event::BulkIn { medium, buffer } => {
                 write!(f, "bulk-in, {medium}, buffer of {} bytes", buffer.length)
             }
+            Event::Show { medium, reply } => write!(f, "show, {medium}, {reply}"),
+            Event::Reply { buffer } => write!(f, "reply, buffer of {} bytes", buffer.length),
             Event::Switch { position, unit } => write!(f, "switch, position {position}, unit {unit}"),
         }
     }

@@ -1,8 +1,10 @@
 //! A host that mostly does the sensible next thing for the device's state, and now and then something else.
 
+use crate::ask::{ask, buffer, reply, show, wants_reply};
 use crate::commands::wrapper;
-use crate::event::{Buffer, Event, Lent, Step};
+use crate::event::{Event, Lent, Step};
 use crate::large_media::LONGEST;
+use crate::lent_reply::LentReply;
 use crate::own::{Own, LIMIT, SMALL};
 use crate::random::Random;
 use crate::requests::{self, Setup};
@@ -30,7 +32,10 @@ pub fn next(random: &mut Random, state: &State, own: &Own) -> Event {
     if is_cut(random, state) || (state.any_closed() || state.senses() > 1) && random.one_in(60) {
         return reset(random);
     }
-    if random.one_in(10) {
+    if wants_reply(random, state) {
+        return reply(random);
+    }
+    if random.one_in(9) {
         return odd(random, state, own);
     }
     if !state.configured() {
@@ -46,17 +51,8 @@ pub fn control(random: &mut Random, setup: Setup) -> Event {
     Event::Control { setup: setup.to_vec(), buffer: buffer(random) }
 }
 
-pub fn ask(random: &mut Random) -> Event {
-    Event::BulkIn { medium: Lent::Own, buffer: buffer(random) }
-}
-
 pub fn send(packet: Vec<u8>) -> Event {
     Event::BulkOut { medium: Lent::Own, packet }
-}
-
-pub fn buffer(random: &mut Random) -> Buffer {
-    let length = if random.one_in(4) { PACKET + random.below(70) as usize } else { PACKET };
-    Buffer { length, seed: random.number() }
 }
 
 /// A wrapper where one is due, else data.
@@ -76,7 +72,7 @@ fn enumerate(random: &mut Random, state: &State, own: &Own) -> Event {
             control(random, setup)
         }
         8 => send(packet(random, state, own)),
-        _ => ask(random),
+        _ => ask(random, state),
     }
 }
 
@@ -87,7 +83,7 @@ fn recover(random: &mut Random, state: &State, own: &Own) -> Event {
         3 => control(random, requests::CLEAR_IN),
         4 => control(random, requests::CLEAR_OUT),
         5 => send(packet(random, state, own)),
-        6 => ask(random),
+        6 => ask(random, state),
         _ => {
             let setup = requests::known(random);
             control(random, setup)
@@ -102,7 +98,7 @@ fn proceed(random: &mut Random, state: &State, own: &Own) -> Event {
         stage::READY | stage::DATA_OUT if state.halt_out() && met => control(random, requests::CLEAR_OUT),
         stage::READY | stage::DATA_OUT => send(packet(random, state, own)),
         _ if state.halt_in() && met => control(random, requests::CLEAR_IN),
-        _ => ask(random),
+        _ => ask(random, state),
     }
 }
 
@@ -132,7 +128,7 @@ fn reset(random: &mut Random) -> Event {
 
 /// Something out of turn, or an input that is refused.
 fn odd(random: &mut Random, state: &State, own: &Own) -> Event {
-    match random.below(20) {
+    match random.below(22) {
         0 => Event::BusReset,
         1 => making(random, own),
         2..=5 => {
@@ -143,10 +139,11 @@ fn odd(random: &mut Random, state: &State, own: &Own) -> Event {
             let setup = requests::strange(random);
             control(random, setup)
         }
-        10 | 11 => ask(random),
-        12 => send(wrapper(random, state, own)),
-        13 => send(random.bytes(64)),
-        14 => {
+        10 | 11 => ask(random, state),
+        12 => show(LentReply::other(random)),
+        13 => send(wrapper(random, state, own)),
+        14 => send(random.bytes(64)),
+        15 => {
             let length = random.below(65);
             send(random.bytes(length))
         }
@@ -162,9 +159,11 @@ fn refused(random: &mut Random, state: &State, own: &Own) -> Event {
         let short = random.below(64) as usize;
         buffer.length = random.pick(&[0, 1, 18, 32, 62, 63, short]);
     }
-    match random.below(3) {
+    match random.below(5) {
         0 => Event::BulkIn { medium, buffer },
-        1 => {
+        1 => Event::Show { medium, reply: LentReply::some(random) },
+        2 => Event::Reply { buffer },
+        3 => {
             let mut packet = packet(random, state, own);
             if random.one_in(2) {
                 packet.resize(PACKET + 1 + random.below(80) as usize, 0x5A);

@@ -7,6 +7,8 @@
 
 mod account;
 mod allocation_length;
+mod ask;
+mod beside;
 mod block_place;
 mod commands;
 mod compare;
@@ -19,7 +21,9 @@ mod inquiry;
 mod invent;
 mod large_media;
 mod ledger_drop;
+mod ledger_show;
 mod ledger_status;
+mod lent_reply;
 mod media;
 mod medium_size;
 mod own;
@@ -33,6 +37,9 @@ mod requests;
 mod sense_drop;
 mod sense_history;
 mod sense_record;
+mod show_call;
+mod show_record;
+mod sides;
 mod state;
 mod switch;
 mod switch_drop;
@@ -156,6 +163,7 @@ impl Run {
         damage.pages.print();
         damage.senses.print();
         damage.switches.print();
+        damage.shows.print();
         println!("\ntime: {:.1} s", started.elapsed().as_secs_f64());
         let mut missing = self.coverage.missing();
         missing.extend(self.damage.tables.missing());
@@ -163,6 +171,7 @@ impl Run {
         missing.extend(self.damage.pages.missing());
         missing.extend(self.damage.senses.missing());
         missing.extend(self.damage.switches.missing());
+        missing.extend(self.damage.shows.missing());
         if missing.is_empty() {
             Ok(())
         } else {

@@ -49,8 +49,8 @@ impl MediumSizes {
     pub fn note(&mut self, before: &State, event: &Event, played: &Played) {
         let kind = match event {
             Event::Make { .. } => Kind::Make,
-            Event::BulkOut { .. } | Event::BulkIn { .. } => Kind::Bulk,
-            Event::BusReset | Event::Control { .. } | Event::Switch { .. } => return,
+            Event::BulkOut { .. } | Event::BulkIn { .. } | Event::Show { .. } => Kind::Bulk,
+            Event::BusReset | Event::Control { .. } | Event::Reply { .. } | Event::Switch { .. } => return,
         };
         let event = (kind, played.answer.number);
         for ((kind, number, _, holds), count) in SIZES.iter().zip(&mut self.counts) {

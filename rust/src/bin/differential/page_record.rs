@@ -75,7 +75,7 @@ impl PageRecords {
             return;
         }
         let (kind, number) = (event.kind(), played.answer.number);
-        let asked = matches!(event, Event::BulkIn { .. });
+        let asked = event.asks();
         if number == 10 {
             for ((_, mended), counts) in UNFIT.iter().zip(&mut self.unfit) {
                 counts[kind] += u64::from(mended(before).is_some_and(|record| fits(record, &before.units)));

@@ -1,27 +1,17 @@
 //! The two devices side by side: each event is played on both, and all that it leaves is compared.
 
+use crate::beside::{check_place, check_reply, check_show, Outcome};
 use crate::compare::{compare_bytes, compare_records, compare_tables, same_bytes};
-use crate::event::{Event, Lent, Step};
+use crate::event::{Buffer, Event, Lent, Step};
 use crate::large_media::LargeMedia;
 use crate::media::Media;
 use crate::random::Random;
+use crate::sides::{play_ordinary, play_proved, Loan, Ordinary};
 use crate::state::State;
-use ordinary::capi::{self, CAnswer};
-use ordinary::device::{Answer, Device, Refusal};
+use ordinary::capi::{source, CShown};
+use ordinary::device::PACKET;
 use ordinary::record::{stage, Record};
 use ordinary::unit::Unit;
-
-/// The ordinary device, or a record that does not decode: every event on it answers 10.
-enum Ordinary {
-    Device(Device),
-    Undecoded(Record),
-}
-
-impl Ordinary {
-    fn new(record: Record) -> Ordinary {
-        Device::from_record(&record).map_or(Ordinary::Undecoded(record), Ordinary::Device)
-    }
-}
 
 pub struct Pair<'a> {
     ordinary: Ordinary,
@@ -33,11 +23,13 @@ pub struct Pair<'a> {
 
 /// What an event left, the same on both sides.
 pub struct Played {
-    pub answer: CAnswer,
-    /// The bytes that were written to the buffer.
+    pub answer: CShown,
+    /// The bytes that were written to the buffer, or shown.
     pub buffer: Vec<u8>,
     /// The length of the medium that was lent.
     pub medium: usize,
+    /// The reply that was lent.
+    pub reply: Vec<u8>,
 }
 
 impl<'a> Pair<'a> {
@@ -79,22 +71,15 @@ impl<'a> Pair<'a> {
         }
     }
 
-    fn record(&self) -> Record {
-        match &self.ordinary {
-            Ordinary::Device(device) => device.to_record(),
-            Ordinary::Undecoded(record) => *record,
-        }
-    }
-
     /// The record and the own table.
     pub fn state(&self) -> State {
-        State { record: self.record(), units: self.tables[0].clone() }
+        State { record: self.ordinary.record(), units: self.tables[0].clone() }
     }
 
     /// What a step finds: its own table or the other one.
     pub fn state_for(&self, step: &Step) -> State {
         let units = step.other.as_ref().unwrap_or(&self.tables[0]);
-        State { record: self.record(), units: units.clone() }
+        State { record: self.ordinary.record(), units: units.clone() }
     }
 
     pub fn decodes(&self) -> bool {
@@ -119,26 +104,83 @@ impl<'a> Pair<'a> {
         self.watch_write(event);
         // The proved device's own: an acked event may have left other reserved bytes than the ordinary one's.
         let before = State { record: self.proved, units: self.tables[1].clone() };
+        let reply = event.reply(&before.record);
+        let copied = self.ask_copies(event);
         let [a, b] = self.media.lend(event.medium());
         let [table_a, table_b] = &mut self.tables;
         let [buffer_a, buffer_b] = &mut self.buffers;
-        let medium = a.len();
-        let answers = [
-            play_ordinary(&mut self.ordinary, event, table_a, a, buffer_a),
-            play_proved(&mut self.proved, event, table_b, b, buffer_b),
-        ];
+        let (medium, replies) = (a.len(), [reply.clone(), reply]);
+        let loan_a = Loan { units: table_a, medium: a, buffer: buffer_a, reply: &replies[0] };
+        let loan_b = Loan { units: table_b, medium: b, buffer: buffer_b, reply: &replies[1] };
+        let answers =
+            [play_ordinary(&mut self.ordinary, event, loan_a), play_proved(&mut self.proved, event, loan_b)];
         if answers[0] != answers[1] {
             return Err(format!("answer: ordinary {:?}, proved {:?}", answers[0], answers[1]));
         }
+        let answer = answers[0];
+        let given = [given(&answer, a, buffer_a, &replies[0])?, given(&answer, b, buffer_b, &replies[1])?];
+        compare_bytes("packet", &given[0], &given[1])?;
         compare_bytes("buffer", buffer_a, buffer_b)?;
+        compare_bytes("lent reply", &replies[0], &replies[1])?;
         compare_tables(table_a, table_b)?;
         self.media.compare(event.medium())?;
-        compare_records(&self.record(), &self.proved)?;
-        let answer = answers[0];
+        compare_records(&self.ordinary.record(), &self.proved)?;
         if answer.number >= 10 {
             self.compare_kept(event, &before).map_err(|what| format!("refused, but not kept: {what}"))?;
         }
-        Ok(Played { answer, buffer: self.buffers[0][..answer.count].to_vec(), medium })
+        let [reply, _] = replies;
+        let [buffer, _] = given;
+        let played = Played { answer, buffer, medium, reply };
+        self.check_alone(event, &before, &played, copied)?;
+        Ok(played)
+    }
+
+    /// Copies of both devices, asked by the copying call beside a showing one.
+    fn ask_copies(&mut self, event: &Event) -> Option<[Outcome; 2]> {
+        let Event::Show { medium, .. } = *event else { return None };
+        let ask = Event::BulkIn { medium, buffer: Buffer { length: PACKET, seed: 0 } };
+        let (mut ordinary, mut proved) = (self.ordinary.clone(), self.proved);
+        let [a, b] = self.media.lend(medium);
+        let [table_a, table_b] = &mut self.tables;
+        let mut buffers = [[0; PACKET]; 2];
+        let [buffer_a, buffer_b] = &mut buffers;
+        let loan_a = Loan { units: table_a, medium: a, buffer: buffer_a, reply: &[] };
+        let loan_b = Loan { units: table_b, medium: b, buffer: buffer_b, reply: &[] };
+        let answers = [play_ordinary(&mut ordinary, &ask, loan_a), play_proved(&mut proved, &ask, loan_b)];
+        let outcome = |side: usize, record| {
+            let CShown { number, count, .. } = answers[side];
+            Outcome { number, bytes: buffers[side][..count].to_vec(), record }
+        };
+        Some([outcome(0, ordinary.record()), outcome(1, proved)])
+    }
+
+    /// What the showing call and the call for the reply owe on each device alone. Both may only read the table, and the
+    /// latter the record too.
+    fn check_alone(
+        &self,
+        event: &Event,
+        before: &State,
+        played: &Played,
+        copied: Option<[Outcome; 2]>,
+    ) -> Result<(), String> {
+        if let Some(copied) = copied {
+            for (copied, record) in copied.iter().zip([self.ordinary.record(), self.proved]) {
+                let shown = Outcome { number: played.answer.number, bytes: played.buffer.clone(), record };
+                check_show(before, &played.reply, &shown, copied)?;
+            }
+            check_place(before, &played.answer)?;
+        } else if let Event::Reply { .. } = event {
+            compare_records(before, &self.proved)?;
+            if played.answer.number == 0 {
+                check_reply(before, &played.buffer)?;
+            }
+        } else {
+            return Ok(());
+        }
+        match same_bytes(&before.units, &self.tables[1]) {
+            true => Ok(()),
+            false => Err("the table was written to".into()),
+        }
     }
 
     fn fill_buffers(&mut self, event: &Event) {
@@ -176,49 +218,13 @@ impl<'a> Pair<'a> {
     }
 }
 
-fn play_ordinary(
-    side: &mut Ordinary,
-    event: &Event,
-    units: &mut [Unit],
-    medium: &mut [u8],
-    buffer: &mut [u8],
-) -> CAnswer {
-    let answer = match (event, &mut *side) {
-        (Event::Make { identity, .. }, _) => match Device::make(*identity, units, medium) {
-            Ok(device) => {
-                *side = Ordinary::Device(device);
-                Answer::Ack
-            }
-            Err(refusal) => {
-                *side = Ordinary::new(Record::ZERO);
-                Answer::Refused(refusal)
-            }
-        },
-        (_, Ordinary::Undecoded(_)) => Answer::Refused(Refusal::Record),
-        (Event::BusReset, Ordinary::Device(device)) => device.bus_reset(units),
-        (Event::Control { setup, .. }, Ordinary::Device(device)) => device.control(units, setup, buffer),
-        (Event::BulkOut { packet, .. }, Ordinary::Device(device)) => device.bulk_out(units, medium, packet),
-        (Event::BulkIn { .. }, Ordinary::Device(device)) => device.bulk_in(units, medium, buffer),
-        (Event::Switch { position, unit }, Ordinary::Device(device)) => {
-            device.set_switch(units, *position, *unit)
-        }
+/// The bytes that an event gave: those shown, else those written to the buffer.
+fn given(answer: &CShown, medium: &[u8], buffer: &[u8], reply: &[u8]) -> Result<Vec<u8>, String> {
+    let from = match answer.source {
+        source::NONE => buffer,
+        source::MEDIUM => medium,
+        _ => reply,
     };
-    CAnswer { number: answer.number(), count: answer.count() as usize }
-}
-
-fn play_proved(
-    record: &mut Record,
-    event: &Event,
-    units: &mut [Unit],
-    medium: &mut [u8],
-    buffer: &mut [u8],
-) -> CAnswer {
-    match event {
-        Event::Make { identity, .. } => capi::make(record, *identity, units, medium),
-        Event::BusReset => capi::bus_reset(record, units),
-        Event::Control { setup, .. } => capi::control(record, units, setup, buffer),
-        Event::BulkOut { packet, .. } => capi::bulk_out(record, units, medium, packet),
-        Event::BulkIn { .. } => capi::bulk_in(record, units, medium, buffer),
-        Event::Switch { position, unit } => capi::set_switch(record, units, *position, *unit),
-    }
+    let bytes = answer.start.checked_add(answer.count).and_then(|end| from.get(answer.start..end));
+    bytes.map(<[u8]>::to_vec).ok_or_else(|| format!("{answer:?} is not in what was lent"))
 }

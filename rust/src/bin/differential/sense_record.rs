@@ -87,7 +87,7 @@ impl SenseRecords {
                     self.note_told(FOUND, unit_sense(unit), unit.sense_information);
                 }
             }
-            (Event::BulkIn { .. }, 0, stage::REQUEST_SENSE) => {
+            (event, 0, stage::REQUEST_SENSE) if event.asks() => {
                 let [key, asc, ascq, _] = before.value.to_le_bytes();
                 if before.place == 0 && before.left >= NUMBER_END {
                     self.note_told(SENT, [key, asc, ascq], before.extra);

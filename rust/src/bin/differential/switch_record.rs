@@ -95,7 +95,7 @@ impl SwitchRecords {
             }
         }
         let third = before.place <= 2 && before.left > 2 - before.place;
-        if let (Event::BulkIn { .. }, 0, stage::MODE_SENSE, true) = (event, number, before.stage, third) {
+        if let (true, 0, stage::MODE_SENSE, true) = (event.asks(), number, before.stage, third) {
             let closed = before.own_unit().is_some_and(Unit::closed);
             self.sent[before.value as usize][usize::from(closed)] += 1;
         }

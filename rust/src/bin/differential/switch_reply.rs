@@ -35,7 +35,7 @@ impl SwitchReplies {
     /// Notes an event that was played on a device that was in the state of `before`.
     pub fn note(&mut self, before: &State, event: &Event, played: &Played) {
         match (event, played.answer.number, before.stage) {
-            (Event::BulkIn { .. }, 0, stage::MODE_SENSE) => {
+            (event, 0, stage::MODE_SENSE) if event.asks() => {
                 let closed = before.own_unit().is_some_and(Unit::closed);
                 let positions = 2 * usize::from(before.value == 1) + usize::from(closed);
                 self.modes[positions][usize::from(played.answer.count > 2)] += 1;

@@ -20,7 +20,7 @@ const LENGTHS: [Length; 5] = [
 ];
 /// Of one unit that is the whole medium.
 const FOR_ONE: usize = 3;
-const KINDS: [&str; 3] = ["make", "bulk-out", "bulk-in"];
+const KINDS: [&str; 4] = ["make", "bulk-out", "bulk-in", "show"];
 
 #[derive(Default)]
 pub struct UnitMedia {
@@ -39,7 +39,8 @@ impl UnitMedia {
             Event::Make { .. } => 0,
             Event::BulkOut { .. } => 1,
             Event::BulkIn { .. } => 2,
-            Event::BusReset | Event::Control { .. } | Event::Switch { .. } => return,
+            Event::Show { .. } => 3,
+            Event::BusReset | Event::Control { .. } | Event::Reply { .. } | Event::Switch { .. } => return,
         };
         let whole = played.medium.is_multiple_of(BLOCK) && played.answer.number == 11;
         let (true, Some(column)) = (whole, column(before.units.len())) else { return };

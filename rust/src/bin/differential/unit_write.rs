@@ -52,7 +52,7 @@ impl UnitWrites {
                 self.under_way[row][met] += 1;
             }
             (_, _, stage::DATA_OUT) if dropped && before.value > 0 => self.under_way[row][4] += 1,
-            (Event::BulkIn { .. }, 0, stage::DATA_IN) => self.under_way[row][5] += 1,
+            (event, 0, stage::DATA_IN) if event.asks() => self.under_way[row][5] += 1,
             _ => {}
         }
     }
