@@ -1,6 +1,7 @@
 //! The differential test: random events are played on the ordinary and on the proved device, and after each event
 //! the answer, the whole buffer, the whole medium, the whole record and the whole table must be the same. Of a medium of more than 4,096
-//! blocks the blocks in use must be the same after each event, and all at the end of its trial. An accountant who sees
+//! blocks the blocks in use must be the same after each event, and all at the end of its trial. A showing call must show
+//! the same packet at the same place, and do as the copying call on a copy of the device. An accountant who sees
 //! the events and answers alone keeps the ledger, which must be in balance after each event.
 //!
 //! `cargo run --release --bin differential -- [--seed N] [--events N] [--seconds N]`

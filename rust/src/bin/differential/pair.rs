@@ -1,6 +1,6 @@
 //! The two devices side by side: each event is played on both, and all that it leaves is compared.
 
-use crate::beside::{check_place, check_reply, check_show, Outcome};
+use crate::beside::{self, Outcome};
 use crate::compare::{compare_bytes, compare_records, compare_tables, same_bytes};
 use crate::event::{Buffer, Event, Lent, Step};
 use crate::large_media::LargeMedia;
@@ -131,7 +131,8 @@ impl<'a> Pair<'a> {
         let [reply, _] = replies;
         let [buffer, _] = given;
         let played = Played { answer, buffer, medium, reply };
-        self.check_alone(event, &before, &played, copied)?;
+        let after = [self.ordinary.record(), self.proved];
+        beside::check(event, &before, &played, copied, after, &self.tables[1])?;
         Ok(played)
     }
 
@@ -152,35 +153,6 @@ impl<'a> Pair<'a> {
             Outcome { number, bytes: buffers[side][..count].to_vec(), record }
         };
         Some([outcome(0, ordinary.record()), outcome(1, proved)])
-    }
-
-    /// What the showing call and the call for the reply owe on each device alone. Both may only read the table, and the
-    /// latter the record too.
-    fn check_alone(
-        &self,
-        event: &Event,
-        before: &State,
-        played: &Played,
-        copied: Option<[Outcome; 2]>,
-    ) -> Result<(), String> {
-        if let Some(copied) = copied {
-            for (copied, record) in copied.iter().zip([self.ordinary.record(), self.proved]) {
-                let shown = Outcome { number: played.answer.number, bytes: played.buffer.clone(), record };
-                check_show(before, &played.reply, &shown, copied)?;
-            }
-            check_place(before, &played.answer)?;
-        } else if let Event::Reply { .. } = event {
-            compare_records(before, &self.proved)?;
-            if played.answer.number == 0 {
-                check_reply(before, &played.buffer)?;
-            }
-        } else {
-            return Ok(());
-        }
-        match same_bytes(&before.units, &self.tables[1]) {
-            true => Ok(()),
-            false => Err("the table was written to".into()),
-        }
     }
 
     fn fill_buffers(&mut self, event: &Event) {

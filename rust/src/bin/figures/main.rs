@@ -2,12 +2,13 @@
 //! the table of them.
 //!
 //! - `figures time`: for each kind of event the quartiles of its time, with one unit and with four, then those of long
-//!   transfers, then those of the same events over small and large units.
+//!   transfers, then those of a long read copied and shown, then those of the same events over small and large units.
 //! - `figures count <kind> ordinary|proved|idle <events>`: plays so many events, to count instructions from outside.
 //!   A kind on a table of four units is written as in `wrapper/4`, one of `stores` with the number of its unit's size, as
 //!   in `wrapper@2`.
 
 mod scene;
+mod shown;
 mod side;
 mod stores;
 mod time;
@@ -44,6 +45,11 @@ fn times() {
             line("rate", name, &format!("{name}{tail}"), &time::transfers(code, count));
         }
     }
+    for (count, tail) in [(1, ""), (FOUR, ", 4 units")] {
+        let (key, calls) = (count.to_string(), shown::CALLS.map(|call| format!("{call}{tail}")).join("; "));
+        line("shown", &key, &calls, &shown::events(&shown::scenes(count)));
+        line("shown-rate", &key, &calls, &shown::transfers(count));
+    }
     let [small, large, end] = STORES.map(stores::scenes);
     for ((small, large), end) in small.into_iter().zip(large).zip(end) {
         line("store", small.key, &small.name, &time::by_turns(&[&small, &large, &end]));
@@ -51,10 +57,11 @@ fn times() {
 }
 
 fn find(key: &str) -> Option<Scene> {
-    let (key, scenes) = match (key.split_once('@'), key.split_once('/')) {
+    let usual = |count| scenes(count).into_iter().chain(shown::scenes(count)).collect();
+    let (key, scenes): (_, Vec<_>) = match (key.split_once('@'), key.split_once('/')) {
         (Some((key, store)), _) => (key, stores::scenes(*STORES.get(store.parse::<usize>().ok()?)?)),
-        (_, Some((key, "4"))) => (key, scenes(FOUR)),
-        _ => (key, scenes(1)),
+        (_, Some((key, "4"))) => (key, usual(FOUR)),
+        _ => (key, usual(1)),
     };
     scenes.into_iter().find(|scene| scene.key == key)
 }

@@ -19,6 +19,8 @@ pub enum Input {
     /// So many packets of data one after the other.
     Data(usize),
     Ask,
+    /// An ask by the showing call, with no reply in hand.
+    Show,
     /// Position and unit.
     Switch(u8, u8),
 }

@@ -1,11 +1,19 @@
 //! The two devices under one name each, so that both are driven by the same loops.
 
 use crate::scene::{Input, State};
-use ordinary::capi;
+use ordinary::capi::{self, source, CShown};
 use ordinary::device::{Device, PACKET};
 use ordinary::record::Record;
+use ordinary::show::Shown;
 use ordinary::unit::{Unit, MAX_UNITS};
 use std::hint::black_box;
+
+/// A shown packet, as a controller takes it: document 01's number, the first byte's address and the count.
+pub struct Seen {
+    pub number: u32,
+    pub packet: *const u8,
+    pub count: usize,
+}
 
 pub trait Side: Clone {
     fn new(record: &Record) -> Self;
@@ -14,6 +22,7 @@ pub trait Side: Clone {
     fn bulk_out(&mut self, units: &mut [Unit], medium: &mut [u8], packet: &[u8]) -> u32;
     fn bulk_in(&mut self, units: &[Unit], medium: &[u8], buffer: &mut [u8]) -> u32;
     fn set_switch(&mut self, units: &mut [Unit], position: u8, unit: u8) -> u32;
+    fn show(&mut self, units: &[Unit], medium: &[u8], reply: &[u8]) -> Seen;
 }
 
 impl Side for Device {
@@ -35,6 +44,11 @@ impl Side for Device {
 
     fn set_switch(&mut self, units: &mut [Unit], position: u8, unit: u8) -> u32 {
         Device::set_switch(self, units, position, unit).number()
+    }
+
+    fn show(&mut self, units: &[Unit], medium: &[u8], reply: &[u8]) -> Seen {
+        let Shown { answer, packet } = Device::show(self, units, medium, reply);
+        Seen { number: answer.number(), packet: packet.as_ptr(), count: packet.len() }
     }
 }
 
@@ -58,6 +72,13 @@ impl Side for Record {
 
     fn set_switch(&mut self, units: &mut [Unit], position: u8, unit: u8) -> u32 {
         capi::set_switch(self, units, position, unit).number
+    }
+
+    /// The address is made as the header's `collector_packet` makes it.
+    fn show(&mut self, units: &[Unit], medium: &[u8], reply: &[u8]) -> Seen {
+        let CShown { number, source, start, count } = capi::show(self, units, medium, reply);
+        let from = if source == source::REPLY { reply } else { medium };
+        Seen { number, packet: from.as_ptr().wrapping_add(start), count }
     }
 }
 
@@ -89,6 +110,11 @@ impl Side for Idle {
     fn set_switch(&mut self, _: &mut [Unit], _: u8, _: u8) -> u32 {
         black_box(self).0.locked().into()
     }
+
+    #[inline(never)]
+    fn show(&mut self, _: &[Unit], medium: &[u8], _: &[u8]) -> Seen {
+        Seen { number: black_box(self).0.locked().into(), packet: medium.as_ptr(), count: 0 }
+    }
 }
 
 /// A device and the table that is lent to it.
@@ -118,6 +144,15 @@ impl<S: Side> Seat<S> {
         self.device.bulk_in(&self.table[..self.count], medium, buffer)
     }
 
+    /// The packet goes where the compiler cannot see it.
+    pub fn show(&mut self, medium: &[u8]) -> u32 {
+        let Seen { number, packet, count } = self.device.show(&self.table[..self.count], medium, &[]);
+        // One by one: a pair would be read at once, just after it was written in two halves, which the processor waits for.
+        black_box(packet);
+        black_box(count);
+        number
+    }
+
     fn set_switch(&mut self, position: u8, unit: u8) -> u32 {
         self.device.set_switch(&mut self.table[..self.count], position, unit)
     }
@@ -136,6 +171,7 @@ pub fn play<S: Side>(seats: &mut [Seat<S>], input: &Input, medium: &mut [u8], bu
             }
         }),
         Input::Ask => seats.iter_mut().for_each(|seat| sum += seat.bulk_in(medium, buffer)),
+        Input::Show => seats.iter_mut().for_each(|seat| sum += seat.show(medium)),
         Input::Switch(position, unit) => {
             seats.iter_mut().for_each(|seat| sum += seat.set_switch(*position, *unit))
         }

@@ -10,33 +10,33 @@ use std::hint::black_box;
 use std::time::Instant;
 
 const BATCH: usize = 32;
-const ROUNDS: usize = 10_000;
-const LONG_ROUNDS: usize = 400;
-const PACKETS: usize = LONG as usize * BLOCK / PACKET;
+pub const ROUNDS: usize = 10_000;
+pub const LONG_ROUNDS: usize = 400;
+pub const PACKETS: usize = LONG as usize * BLOCK / PACKET;
 
 /// First quartile, median and third quartile.
 pub type Quartiles = [f64; 3];
 
-fn quartiles(mut samples: Vec<f64>) -> Quartiles {
+pub fn quartiles(mut samples: Vec<f64>) -> Quartiles {
     samples.sort_by(f64::total_cmp);
     [1, 2, 3].map(|quarter| samples[samples.len() * quarter / 4])
 }
 
 /// A batch of devices, and the one that each of them is to be before it is timed.
-struct Batch<S> {
+pub struct Batch<S> {
     prepared: Seat<S>,
     seats: Vec<Seat<S>>,
-    samples: Vec<f64>,
+    pub samples: Vec<f64>,
 }
 
 impl<S: Side> Batch<S> {
-    fn new(scene: &Scene) -> Batch<S> {
+    pub fn new(scene: &Scene) -> Batch<S> {
         let prepared = Seat::new(&scene.before);
         Batch { seats: vec![prepared.clone(); BATCH], prepared, samples: vec![] }
     }
 
     /// Times the batch as a whole, and notes the nanoseconds an event.
-    fn round(&mut self, scene: &Scene, medium: &mut [u8]) {
+    pub fn round(&mut self, scene: &Scene, medium: &mut [u8]) {
         self.seats.fill(self.prepared.clone());
         let mut buffer = [0; PACKET];
         let started = Instant::now();
@@ -85,7 +85,7 @@ pub fn by_turns(scenes: &[&Scene]) -> Vec<Quartiles> {
     media.into_iter().map(|(_, _, proved)| less(proved.samples)).collect()
 }
 
-fn long_read<S: Side>(seat: &mut Seat<S>, medium: &mut [u8], wrapper: &[u8]) -> u32 {
+pub fn long_read<S: Side>(seat: &mut Seat<S>, medium: &mut [u8], wrapper: &[u8]) -> u32 {
     let mut buffer = [0; PACKET];
     let mut sum = seat.bulk_out(medium, wrapper);
     for _ in 0..PACKETS + 1 {
@@ -102,14 +102,20 @@ fn long_write<S: Side>(seat: &mut Seat<S>, medium: &mut [u8], wrapper: &[u8]) ->
     sum + seat.bulk_in(medium, &mut [0; PACKET])
 }
 
-fn rate<S: Side>(seat: &mut Seat<S>, medium: &mut [u8], wrapper: &[u8; CBW_SIZE]) -> f64 {
-    let read = wrapper[15] == code::READ;
+/// Megabytes a second of a whole transfer, and so many acks in it.
+pub fn timed(acks: usize, transfer: impl FnOnce() -> u32) -> f64 {
     let started = Instant::now();
-    let sum = if read { long_read(seat, medium, wrapper) } else { long_write(seat, medium, wrapper) };
+    let sum = transfer();
     let time = started.elapsed().as_secs_f64();
-    let acks = if read { 1 } else { 1 + PACKETS };
     assert_eq!(sum as usize, acks, "a long transfer was not carried through");
     (PACKETS * PACKET) as f64 / time / 1e6
+}
+
+fn rate<S: Side>(seat: &mut Seat<S>, medium: &mut [u8], wrapper: &[u8; CBW_SIZE]) -> f64 {
+    match wrapper[15] {
+        code::READ => timed(1, || long_read(seat, medium, wrapper)),
+        _ => timed(1 + PACKETS, || long_write(seat, medium, wrapper)),
+    }
 }
 
 /// Megabytes a second over a whole read or write in the last of so many units: wrapper, data, status.
