@@ -6,12 +6,14 @@ use crate::lent_reply::{runs, LentReply};
 use crate::random::Random;
 use crate::state::State;
 use ordinary::device::PACKET;
+use ordinary::record::stage;
 
 /// Some commands are mostly shown and some mostly copied: their tag says which. Where a status is due the showing call
 /// does not go on.
 pub fn ask(random: &mut Random, state: &State) -> Event {
     let shown = match state.tag % 4 {
         _ if state.status_due() => random.one_in(10),
+        _ if state.stage == stage::READY => random.one_in(2),
         0 => random.one_in(16),
         1 => !random.one_in(16),
         _ => random.one_in(2),

@@ -17,7 +17,7 @@ pub fn is_moved(random: &mut Random, state: &State) -> bool {
         stage::MODE_SENSE => 4,
         stage::DATA_OUT => 16,
         _ if state.any_sense(|sense| *sense == Sense::WRITE_PROTECTED) => 6,
-        _ if mostly_closed(state) && state.units.len() > 2 => 10,
+        _ if mostly_closed(state) && state.units.len() > 2 => 8,
         _ => 32,
     })
 }

@@ -14,9 +14,9 @@ pub const CALLS: [&str; 4] = ["ordinary, copied", "ordinary, shown", "proved, co
 pub fn scenes(count: usize) -> [Scene; 2] {
     let units = usual(count);
     let read = wrapper(&units, code::READ, FIRST, LONG);
-    [("data-in", Input::Ask), ("shown", Input::Show)].map(|(key, input)| Scene {
+    [("data-in", "copied", Input::Ask), ("shown", "shown", Input::Show)].map(|(key, call, input)| Scene {
         key,
-        name: format!("bulk-in data, 64 bytes of a long read, {key}"),
+        name: format!("bulk-in data, 64 bytes of a long read, {call}"),
         before: reading(&units, &read, 500),
         input,
     })
