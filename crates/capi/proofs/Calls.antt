@@ -26,13 +26,13 @@ is-state : (w : World) → Senses w → IsState (w .dev .state)
 is-state w h = record { sense = λ n place left e. subst StageSense e (h .stage) }
 
 module _ (w : World) (h : Senses w) where
-  written : decodes (recordOf w .flat) ≡ true
+  pub written : decodes (recordOf w .flat) ≡ true
   written = round-trip .written-decodes (w .dev .state) (is-state w h)
 
-  read-back : worldFrom (recordOf w) (w .units) (w .medium) ≡ w
+  pub read-back : worldFrom (recordOf w) (w .units) (w .medium) ≡ w
   read-back = let s = round-trip .written-is-read (w .dev .state) (is-state w h) in λ i. world (device (w .dev .identity) (s i) (w .dev .part)) (w .units) (w .medium)
 
-  one-call : (e : Event) → onRecord (recordOf w) (w .units) (w .medium) e ≡ leaves (told (step w e))
+  pub one-call : (e : Event) → onRecord (recordOf w) (w .units) (w .medium) e ≡ leaves (told (step w e))
   unfolding onRecord
   one-call e = if-true _ _ _ written ∙ ap (λ (x : World). leaves (told (step x e))) read-back
 

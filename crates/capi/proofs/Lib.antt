@@ -1,5 +1,6 @@
 pub mod Again
 pub mod Calls
+pub mod EitherRun
 pub mod Elements
 pub mod Held
 pub mod Outcomes

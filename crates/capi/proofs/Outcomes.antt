@@ -1,16 +1,16 @@
 -- What a turn leaves by value, and what is left of the table that its units were taken from. Assumes nothing.
-use Prim.Native.Nat.{ℕ, _<_}
+use Prim.Native.Nat.{ℕ, _*_, _<_}
 use mathlib.Core.Path.{_≡_, refl, sym, ap, subst, _∙_}
 use mathlib.Core.Bool.{Bool, true, false}
 use mathlib.Core.List.{List, [], _∷_}
 use native.Mathlib.Omega.{arith}
-use lib.Dec.{leb}
+use lib.Dec.{leb, eqb}
 use lib.ListN.{length}
 use borrow.Author.Tests.{leb-true, leb-false}
 use Rattle.wire.specs.Choice.{if_then_else_, _and_}
-use Rattle.wire.proofs.Cases.{both, and-false, if-false}
+use Rattle.wire.proofs.Cases.{both, and-false, by-if, if-false}
 use Rattle.usb.specs.declared.descriptor.Identity.{Identity}
-use Rattle.machine.specs.Units.{Table, unitAt, inTable}
+use Rattle.machine.specs.Units.{sizeFits, Table, unitAt, inTable, switchesFit, total, laidOut}
 use Rattle.machine.specs.Machine.{Event}
 use Rattle.units.specs.declared.table.Units.{Units}
 use Rattle.units.specs.Held.{heldOf, tableOf, putBack}
@@ -107,6 +107,9 @@ module _ (r : Record) (us : Table) (m s : List ℕ) where
       let q = said ∙ sym (beyond-shown r (seen us) m s k) in
       (λ i. leftShown (q i .shown) (q i .rec) us m) ∙ beyond-shown r us m s l)
 
+  pub over-one-shown : (t : Shown) (r' : Record) → length us ≡ 1 → leftShown t r' (unitAt us 0 ∷ []) m ≡ showOnRecord r (unitAt us 0 ∷ []) m s → leftShown t r' us m ≡ showOnRecord r us m s
+  over-one-shown t r' n said = subst (λ (vs : Table). leftShown t r' vs m ≡ showOnRecord r vs m s) (one us n) said
+
   pub over-reply : (t : Told) (b : List ℕ) → leftReply t b ≡ replyOnRecord r (seen us) m s → leftReply t b ≡ replyOnRecord r us m s
   over-reply t b said =
       by-size us (λ w. subst (λ (vs : Table). leftReply t b ≡ replyOnRecord r vs m s) w said) (λ l k. said ∙ sym (beyond-reply r (seen us) m s k) ∙ beyond-reply r us m s l)
@@ -130,12 +133,19 @@ unfolding if_then_else_
 chosen true x y n e = refl
 chosen false x y n e = never (sym n ∙ e)
 
+-- a place with blocks is one that was found
+somewhere : (us : Table) (n m : ℕ) (p : Place) → p ≡ placeIn us n m → sizeFits (p .blocks) ≡ true → p .whole ≡ true
+unfolding placeIn sizeFits _and_
+somewhere us n m p e =
+    subst (λ (x : Place). sizeFits (x .blocks) ≡ true → x .whole ≡ true) (sym e)
+    (by-if (λ (x : Place). sizeFits (x .blocks) ≡ true → x .whole ≡ true) (inTable n us and laidOut us and switchesFit us and eqb m (512 * total us)) _ _ (λ _ _. refl) (λ _ z. never z))
+
 module _ (r : Record) (us : Table) (m s : List ℕ) (place : Place) (ep : place ≡ placeIn us (r .flat .lun) (length m)) where
   pub quickly : (q : QuickShow) → q ≡ quickShow (r .given) (r .flat) place (length s) → q .done ≡ true
       → leftShown (q .shown) (rec (r .given) (q .flat) (r .part)) us m ≡ showOnRecord r us m s
   unfolding quickShow
   quickly q e d =
       let z = sym (ap (λ (x : QuickShow). x .done) e) ∙ d in
-      let w = both _ _ (chosen _ _ _ refl z) .0 in
+      let w = somewhere us (r .flat .lun) (length m) place ep (both _ _ (both _ _ (chosen _ _ _ refl z) .1) .0) in
       subst (λ (x : QuickShow). leftShown (x .shown) (rec (r .given) (x .flat) (r .part)) us m ≡ showOnRecord r us m s) (sym e)
       (quick-shows (r .given) (r .flat) us m place (placed-whole us (r .flat .lun) (length m) place ep w) s z (r .part))

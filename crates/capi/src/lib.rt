@@ -13,6 +13,7 @@ use crate::table::load;
 use crate::table::pick;
 use crate::table::settle;
 use crate::table::settle_one;
+use cevents::show::alone_show;
 use cevents::show::turn_reply;
 use cevents::show::turn_show;
 use cevents::showing::quick_show;
@@ -168,6 +169,12 @@ pub extern "C" fn collector_show(
     if quick.done {
         held.flat = quick.flat;
         return quick.shown;
+    }
+    if table.len() == 1 {
+        let unit = pick(table, 0);
+        let turn = alone_show(held.given, held.flat, unit, medium, reply);
+        held.flat = turn.flat;
+        return turn.shown;
     }
     let units = load(table);
     let turn = turn_show(held.given, held.flat, units, medium, reply);

@@ -10,7 +10,7 @@ use Rattle.machine.specs.Units.{mostBlocks, sizeFits}
 use Rattle.machine.specs.Fits.{outFits, inFits}
 use Rattle.crecord.specs.declared.record.Given.{Given}
 use Rattle.crecord.specs.declared.record.Flat as flats
-use Rattle.cevents.specs.Ways.{Free, isFree, ReadsOn, readsOn, Gathers, movedOn, readOn}
+use Rattle.cevents.specs.Ways.{Free, isFree, ReadsOn, readsOn, Gathers, movedOn, readOn, isReading}
 
 -- ---- a test and the facts that it stands for
 
@@ -66,6 +66,19 @@ module _ (g : Given) (f : flats.Flat) where
         (and-true _ _ (w .running) (le-leb _ _ (w .room)))))))
 
 -- ---- what is then due
+
+-- a read that is under way, of whose bytes a packet is due
+pub reading-on : (g : Given) (f : flats.Flat) (blocks : ℕ) → isReading g f blocks ≡ true → 64 ≤ f .left → (f .left ≡ 64 → f .residue ≡ 64) → ReadsOn g f blocks 64
+unfolding isReading
+reading-on g f blocks e k l =
+    let a = both _ _ e in
+    let b = both _ _ (a .1) in
+    let c = both _ _ (b .1) in
+    record { free = free g f (c .1); stage = eqb-true _ _ (a .0); value = eqb-true _ _ (b .0); packet = k; last = l; running = c .0; room = omega arith }
+
+pub is-reading : (g : Given) (f : flats.Flat) (blocks buffer : ℕ) → ReadsOn g f blocks buffer → isReading g f blocks ≡ true
+unfolding isReading
+is-reading g f blocks buffer w = and-true _ _ (eq-eqb _ _ (w .stage)) (and-true _ _ (eq-eqb _ _ (w .value)) (and-true _ _ (w .running) (is-free g f (w .free))))
 
 pub read-last : (f : flats.Flat) → f .left ≡ 64 → readOn f ≡ movedOn f 7 0 0 0 0
 unfolding readOn

@@ -56,9 +56,9 @@ module _ (g : Given) (f : flats.Flat) (us : Table) (m : List ℕ) (place : Place
   unfolding quickShow
   quick-shows s d p =
       by-if (λ (q : QuickShow). q .done ≡ true → leftShown (q .shown) (rec g (q .flat) p) us m ≡ showOnRecord (rec g f p) us m s)
-      (place .whole and eqb (length s) 0 and sizeFits (place .blocks) and readsOn g f (place .blocks) 64) _ _
+      (eqb (length s) 0 and sizeFits (place .blocks) and readsOn g f (place .blocks) 64) _ _
       (λ b _.
-      let t = both _ _ (both _ _ b .1) in
+      let t = both _ _ b in
       sym (shows-on (reads _ _ _ _ (both _ _ (t .1) .1)) p) ∙ ap (showOnRecord (rec g f p) us m) (none s (eqb-true _ _ (t .0))))
       (λ _ e. never e)
       d

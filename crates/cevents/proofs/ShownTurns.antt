@@ -1,11 +1,11 @@
 -- A showing call on C's numbers, and the record's reply: refused, and decoded. Assumes nothing.
-use Prim.Native.Nat.{ℕ, _-_, _<_}
+use Prim.Native.Nat.{ℕ, _<_}
 use mathlib.Core.Path.{_≡_, refl, sym, ap, _∙_}
 use mathlib.Core.Bool.{Bool, true, false}
-use mathlib.Core.List.{List, [], _∷_}
+use mathlib.Core.List.{List}
 use native.Mathlib.Omega.{arith}
 use lib.Dec.{leb}
-use lib.ListN.{length, take, replicate}
+use lib.ListN.{length}
 use borrow.Author.Tests.{leb-false}
 use Rattle.wire.specs.Choice.{_and_}
 use Rattle.wire.proofs.Cases.{both, by-if, if-true, if-false}
@@ -23,7 +23,7 @@ use Rattle.machine.specs.World.{World, world, Out, out}
 use Rattle.machine.specs.Machine.{Told, told, check, inOrder, judged}
 use Rattle.machine.specs.Show.{showChecks, Shown, shown, showJudged, show, ToldShown, toldShown, replyChecks, giveReply}
 use Rattle.units.specs.declared.table.Units.{Units}
-use Rattle.units.specs.Held.{noUnit, tableOf}
+use Rattle.units.specs.Held.{tableOf}
 use Rattle.units.proofs.Held.{length-table}
 use Rattle.crecord.proofs.RoundTrip.{round-trip}
 use Rattle.crecord.specs.declared.record.Given.{Given}
@@ -91,11 +91,6 @@ module _ (g : Given) (f : flats.Flat) (h : Units) (p m s : List ℕ) where
   refuses-reply n =
       let l = length-table h in
       one-false (decodes f) (leb (h .count) 4) n (unread (rec g f p) (tableOf h) m s) (λ k. let z : 4 < h .count = leb-false _ _ k in beyond-reply (rec g f p) (tableOf h) m s (omega arith))
-
--- a table of one unit
-pub one-unit : (h : Units) → h .count ≡ 1 → tableOf h ≡ (h .unit0 ∷ [])
-unfolding tableOf
-one-unit h e = ap (λ (k : ℕ). take k (h .unit0 ∷ h .unit1 ∷ h .unit2 ∷ h .unit3 ∷ replicate (k - 4) noUnit)) e
 
 -- ---- decoded
 

@@ -38,6 +38,6 @@ notShown f = record { done = false; shown = shownAs 10 0 extent.Nowhere; flat = 
 
 unfoldable pub quickShow : Given → flats.Flat → Place → ℕ → shows.QuickShow
 quickShow g f place reply =
-    if place .whole and eqb reply 0 and sizeFits (place .blocks) and readsOn g f (place .blocks) 64
+    if eqb reply 0 and sizeFits (place .blocks) and readsOn g f (place .blocks) 64
     then record { done = true; shown = shownAs 0 64 (extent.Medium (512 * place .first + f .place) 64); flat = readOn f }
     else notShown f

@@ -40,6 +40,10 @@ pub record Free (g : Given) (f : flats.Flat) : Type 0 where
 unfoldable pub isFree : Given → flats.Flat → Bool
 isFree g f = eqb (f .flags) 1 and eqb (f .extra) 0 and leb (f .address) 0x7F and numberFits (g .number)
 
+-- A read is under way, and its numbers fit.
+unfoldable pub isReading : Given → flats.Flat → ℕ → Bool
+isReading g f blocks = eqb (f .stage) 2 and eqb (f .value) 0 and inFits (512 * blocks) (f .place) (f .left) (f .announced) (f .residue) and isFree g f
+
 -- The last packet is one that leaves no residue: otherwise a halt comes.
 pub record ReadsOn (g : Given) (f : flats.Flat) (blocks buffer : ℕ) : Type 0 where
   pub free : Free g f

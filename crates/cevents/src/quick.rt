@@ -2,7 +2,7 @@
 // passed. The record need not be decoded for these. What is asked of the table is in place.rt.
 ghost use mathlib.Core.Path.{_≡_};
 ghost use mathlib.Core.Bool.{true};
-ghost use Rattle.cevents.specs.Ways.{isFree, readsOn, Passes, Gathers};
+ghost use Rattle.cevents.specs.Ways.{isFree, isReading, readsOn, Passes, Gathers};
 use crecord::record::Flat;
 use crecord::record::Given;
 use state::fits::in_fits;
@@ -27,6 +27,30 @@ fn is_free(given: Given, flat: Flat) -> bool
         return false;
     }
     number_fits(number)
+}
+
+// A read is under way, and its numbers fit.
+pub(crate) fn is_reading(given: Given, flat: Flat, blocks: u32) -> bool
+    ensures { λ r. ⌜ r ≡ isReading given flat blocks ⌝ }
+{
+    let stage = flat.stage;
+    let value = flat.value;
+    if stage != 2 {
+        return false;
+    }
+    if value != 0 {
+        return false;
+    }
+    if !in_fits(
+        512 * (blocks as u64),
+        flat.place,
+        flat.left,
+        flat.announced,
+        flat.residue,
+    ) {
+        return false;
+    }
+    is_free(given, flat)
 }
 
 // A packet of 64 bytes is due; the last one leaves no residue.

@@ -1,6 +1,6 @@
 // A showing call on the record as C holds it, and the reply that is lent to it: decoded, done by `bulk`, encoded.
 ghost use mathlib.Core.Path.{_≡_};
-ghost use mathlib.Core.List.{List};
+ghost use mathlib.Core.List.{List, [], _∷_};
 ghost use Prim.Native.Nat.{ℕ};
 ghost use Rattle.units.specs.Held.{tableOf};
 ghost use Rattle.crecord.specs.Flat.{rec};
@@ -18,6 +18,7 @@ use crecord::record::Flat;
 use crecord::record::Given;
 use crecord::record::Shown;
 use crecord::record::Told;
+use machine::record::LogicalUnit;
 use units::table::Units;
 
 // What a showing call leaves: it changes no unit and no part block.
@@ -26,7 +27,7 @@ pub struct ShowTurn {
     pub flat: Flat,
 }
 
-// Any showing call.
+// Any showing call. Called twice it stays a function of its own, and its numbers take no registers of the quick way.
 fn any_show(given: Given, flat: Flat, units: Units, medium: &[u8], reply: &[u8]) -> ShowTurn
     ensures { λ r. ⌜ ((p : List ℕ) → leftShown (r .shown) (rec given (r .flat) p) (tableOf units) (now (medium .entry)) ≡ showOnRecord (rec given flat p) (tableOf units) (now (medium .entry)) (now (reply .entry))) ⌝ }
 {
@@ -50,15 +51,24 @@ fn any_show(given: Given, flat: Flat, units: Units, medium: &[u8], reply: &[u8])
     ShowTurn { shown, flat }
 }
 
-// The next packet of data on bulk-in, shown where it stands. Called from two places, `any_show` stays a function of its own,
-// and its numbers take no registers of the quick way in front of it.
+// The next packet of data on bulk-in, shown where it stands.
 pub fn turn_show(given: Given, flat: Flat, units: Units, medium: &[u8], reply: &[u8]) -> ShowTurn
     ensures { λ r. ⌜ ((p : List ℕ) → leftShown (r .shown) (rec given (r .flat) p) (tableOf units) (now (medium .entry)) ≡ showOnRecord (rec given flat p) (tableOf units) (now (medium .entry)) (now (reply .entry))) ⌝ }
 {
-    if units.count == 1 {
-        return any_show(given, flat, alone(units.unit0), medium, reply);
-    }
     any_show(given, flat, units, medium, reply)
+}
+
+// The same over a table of one unit.
+pub fn alone_show(
+    given: Given,
+    flat: Flat,
+    unit: LogicalUnit,
+    medium: &[u8],
+    reply: &[u8],
+) -> ShowTurn
+    ensures { λ r. ⌜ ((p : List ℕ) → leftShown (r .shown) (rec given (r .flat) p) (unit ∷ []) (now (medium .entry)) ≡ showOnRecord (rec given flat p) (unit ∷ []) (now (medium .entry)) (now (reply .entry))) ⌝ }
+{
+    any_show(given, flat, alone(unit), medium, reply)
 }
 
 // The record's reply, put into a buffer.

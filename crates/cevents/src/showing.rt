@@ -3,7 +3,7 @@ ghost use mathlib.Core.Path.{_≡_};
 ghost use Rattle.cevents.specs.Quick.{notShown, quickShow};
 use crate::packets::moved_on;
 use crate::place::Place;
-use crate::quick::reads_on;
+use crate::quick::is_reading;
 use crecord::record::Flat;
 use crecord::record::Given;
 use crecord::record::Shown;
@@ -36,19 +36,16 @@ fn not_shown(flat: Flat) -> QuickShow
 pub fn quick_show(given: Given, flat: Flat, place: Place, reply: usize) -> QuickShow
     ensures { λ r. ⌜ r ≡ quickShow given flat place reply ⌝ }
 {
-    let whole = place.whole;
     let blocks = place.blocks;
-    if !whole {
-        return not_shown(flat);
-    }
     // A read has no reply.
     if reply != 0 {
         return not_shown(flat);
     }
+    // Nowhere a unit has no blocks.
     if !size_fits(blocks) {
         return not_shown(flat);
     }
-    if !reads_on(given, flat, blocks, 64) {
+    if !is_reading(given, flat, blocks) {
         return not_shown(flat);
     }
     let at = flat.place;
@@ -59,16 +56,23 @@ pub fn quick_show(given: Given, flat: Flat, place: Place, reply: usize) -> Quick
         start: 512 * (place.first as usize) + (at as usize),
         count: 64,
     };
-    if left == 64 {
+    if 64 < left {
         return QuickShow {
             done: true,
             shown,
-            flat: moved_on(flat, 7, 0, 0, 0, 0),
+            flat: moved_on(flat, 2, flat.residue - 64, at + 64, left - 64, 0),
         };
+    }
+    // The last packet, which leaves no residue.
+    if left != 64 {
+        return not_shown(flat);
+    }
+    if flat.residue != 64 {
+        return not_shown(flat);
     }
     QuickShow {
         done: true,
         shown,
-        flat: moved_on(flat, 2, flat.residue - 64, at + 64, left - 64, 0),
+        flat: moved_on(flat, 7, 0, 0, 0, 0),
     }
 }
