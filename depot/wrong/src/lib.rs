@@ -13,6 +13,8 @@ mod bulk;
 mod cases;
 #[path = "../../../rust/src/control.rs"]
 mod control;
+#[path = "../../../rust/src/data_in.rs"]
+mod data_in;
 #[path = "../../../rust/src/device.rs"]
 mod device;
 #[path = "../../../rust/src/pages.rs"]
