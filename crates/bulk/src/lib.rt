@@ -1,5 +1,5 @@
-// The bulk pipes: a packet from the host, and an ask for a packet. Both events make their checks first; each is one
-// equation with the specification machine, for every input.
+// The bulk pipes: a packet from the host, an ask for a packet, and a packet shown where it stands. Each makes its checks first,
+// and is one equation with the specification machine, for every input.
 mod ask;
 mod inward;
 mod outward;

@@ -1,6 +1,6 @@
-// The C interface: making a collector and the five events over a record that C owns, and a table of units and a medium that it
-// lends. Each answers document 01's number, and leaves what the specification machine leaves; specs/Calls.antt says what a list
-// of calls comes to. include/collector.h declares it.
+// The C interface: making a collector, the five events and the showing call over a record that C owns, and a table of units and
+// a medium that it lends. Each answers document 01's number, and leaves what the specification machine leaves; specs/Calls.antt
+// and specs/EitherRun.antt say what a list of calls comes to. include/collector.h declares it.
 ghost use Prim.Native.Nat.{ℕ};
 ghost use mathlib.Core.Path.{_≡_};
 ghost use mathlib.Core.List.{List, []};
