@@ -67,18 +67,43 @@ module _ (g : Given) (f : flats.Flat) where
 
 -- ---- what is then due
 
--- a read that is under way, of whose bytes a packet is due
-pub reading-on : (g : Given) (f : flats.Flat) (blocks : ℕ) → isReading g f blocks ≡ true → 64 ≤ f .left → (f .left ≡ 64 → f .residue ≡ 64) → ReadsOn g f blocks 64
+-- a read that is under way
+pub record Under (g : Given) (f : flats.Flat) (blocks : ℕ) : Type 0 where
+  pub stage : f .stage ≡ 2
+  pub value : f .value ≡ 0
+  pub running : inFits (512 * blocks) (f .place) (f .left) (f .announced) (f .residue) ≡ true
+  pub free : Free g f
+
+pub under : (g : Given) (f : flats.Flat) (blocks : ℕ) → isReading g f blocks ≡ true → Under g f blocks
 unfolding isReading
-reading-on g f blocks e k l =
+under g f blocks e =
     let a = both _ _ e in
     let b = both _ _ (a .1) in
     let c = both _ _ (b .1) in
-    record { free = free g f (c .1); stage = eqb-true _ _ (a .0); value = eqb-true _ _ (b .0); packet = k; last = l; running = c .0; room = omega arith }
+    record { stage = eqb-true _ _ (a .0); value = eqb-true _ _ (b .0); running = c .0; free = free g f (c .1) }
+
+pub is-under : (g : Given) (f : flats.Flat) (blocks : ℕ) → Under g f blocks → isReading g f blocks ≡ true
+unfolding isReading
+is-under g f blocks w = and-true _ _ (eq-eqb _ _ (w .stage)) (and-true _ _ (eq-eqb _ _ (w .value)) (and-true _ _ (w .running) (is-free g f (w .free))))
+
+-- four numbers compared as the digits of one
+pub record Digits (stage flags value extra : ℕ) : Type 0 where
+  pub first : stage ≡ 2
+  pub second : flags ≡ 1
+  pub third : value ≡ 0
+  pub fourth : extra ≡ 0
+
+pub digits-are : (stage flags value extra : ℕ) → stage < 256 → flags < 256 → stage + 256 * flags + 65536 * (value + extra) ≡ 258 → Digits stage flags value extra
+digits-are stage flags value extra a b e = record { first = omega arith; second = omega arith; third = omega arith; fourth = omega arith }
+
+-- a read that is under way, of whose bytes a packet is due
+pub reading-on : (g : Given) (f : flats.Flat) (blocks : ℕ) → isReading g f blocks ≡ true → 64 ≤ f .left → (f .left ≡ 64 → f .residue ≡ 64) → ReadsOn g f blocks 64
+reading-on g f blocks e k l =
+    let w = under g f blocks e in
+    record { free = w .free; stage = w .stage; value = w .value; packet = k; last = l; running = w .running; room = omega arith }
 
 pub is-reading : (g : Given) (f : flats.Flat) (blocks buffer : ℕ) → ReadsOn g f blocks buffer → isReading g f blocks ≡ true
-unfolding isReading
-is-reading g f blocks buffer w = and-true _ _ (eq-eqb _ _ (w .stage)) (and-true _ _ (eq-eqb _ _ (w .value)) (and-true _ _ (w .running) (is-free g f (w .free))))
+is-reading g f blocks buffer w = is-under g f blocks (record { stage = w .stage; value = w .value; running = w .running; free = w .free })
 
 pub read-last : (f : flats.Flat) → f .left ≡ 64 → readOn f ≡ movedOn f 7 0 0 0 0
 unfolding readOn

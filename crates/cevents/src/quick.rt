@@ -29,16 +29,14 @@ fn is_free(given: Given, flat: Flat) -> bool
     number_fits(number)
 }
 
-// A read is under way, and its numbers fit.
+// A read is under way, and its numbers fit. Stage, flags and what must be 0 are compared at once, as the digits of one number:
+// each test by itself would take as many instructions.
 pub(crate) fn is_reading(given: Given, flat: Flat, blocks: u32) -> bool
     ensures { λ r. ⌜ r ≡ isReading given flat blocks ⌝ }
 {
-    let stage = flat.stage;
-    let value = flat.value;
-    if stage != 2 {
-        return false;
-    }
-    if value != 0 {
+    let zero = (flat.value as u64) + (flat.extra as u64);
+    let digits = (flat.stage as u64) + 256 * (flat.flags as u64) + 65536 * zero;
+    if digits != 0x0102 {
         return false;
     }
     if !in_fits(
@@ -50,7 +48,10 @@ pub(crate) fn is_reading(given: Given, flat: Flat, blocks: u32) -> bool
     ) {
         return false;
     }
-    is_free(given, flat)
+    if 0x7F < flat.address {
+        return false;
+    }
+    number_fits(given.number)
 }
 
 // A packet of 64 bytes is due; the last one leaves no residue.
