@@ -153,8 +153,8 @@ pub extern "C" fn collector_bulk_in(
     turn.told
 }
 
-// The next packet of data on bulk-in, shown where it stands. A whole packet of a read needs neither the table by value nor the
-// record decoded; for all else both are read anew.
+// The next packet of data on bulk-in, shown where it stands. A whole packet of a read is answered by the record's numbers; for
+// all else record and table are read anew.
 #[no_mangle]
 pub extern "C" fn collector_show(
     held: &mut Record,
