@@ -26,7 +26,7 @@ use Rattle.machine.specs.Ledger.{AllBytes, ledger, Balanced}
 
 -- ---- one call
 
--- The checks are passed, and the copying call would hand out the status wrapper.
+-- What an ask comes to is the status wrapper.
 unfoldable pub isStatus : Asked → Bool
 isStatus (Quiet a) = false
 isStatus (Packet (source.Medium place n) s) = false
@@ -37,6 +37,7 @@ unfoldable pub passing : Verdict → Bool
 passing Passes = true
 passing (Refuses a) = false
 
+-- The checks are passed, and the copying call would hand out the status wrapper.
 unfoldable pub statusNext : World → Bool
 statusNext w = passing (inOrder (showChecks w (replyOf w))) and isStatus (ask (w .dev .state))
 
@@ -44,7 +45,7 @@ statusNext w = passing (inOrder (showChecks w (replyOf w))) and isStatus (ask (w
 abbrev pub copied : Shown → List ℕ → List ℕ → List ℕ → Out
 copied o m r b = out (o .answer) (o .world) (placed b 0 (bytesShown (o .at) m r))
 
--- Of every record, table and medium, and of every reply that is lent: one of these three.
+-- Of every record, table and medium, and of every reply that is lent: it is alike, a status is next, or the reply is another's.
 pub record Shows : Type 0 where
   -- "it shows the same bytes, with the same number and following state, as the copying call .. given 64 bytes to write into"
   pub alike : (w : World) (b : List ℕ) → length b ≡ packetSize → statusNext w ≡ false → copied (show w (replyOf w)) (w .medium) (replyOf w) b ≡ step w (bulkIn b)
