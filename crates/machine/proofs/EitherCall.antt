@@ -32,7 +32,7 @@ use Rattle.machine.specs.Beside.{isQuiet}
 use Rattle.machine.specs.Isolation.{AllAlike, AllAgree, nothing, overMedium, Isolation}
 use Rattle.machine.specs.Ledger.{Ledger}
 use Rattle.machine.specs.Show.{replyOf, showChecks, Shown, shown, showFrom, showAsked, showJudged, show}
-use Rattle.machine.specs.EitherCall.{isStatus, passing, statusNext, Shows, Call, event, showing, asked, stepCall, isIdle, runCalls, eventsOf, EitherCall}
+use Rattle.machine.specs.EitherCall.{handsStatus, passing, statusNext, Shows, Call, event, showing, asked, stepCall, isIdle, runCalls, eventsOf, EitherCall}
 use Rattle.machine.proofs.Judge.{by-verdict, fit-passed, in-medium}
 use Rattle.machine.proofs.Fit.{fit-of}
 use Rattle.machine.proofs.Demand.{demand3}
@@ -73,7 +73,7 @@ quiet-count (Refused r) e = refl
 -- at each verdict, and so with the record's reply lent
 module _ (w : World) (b : List ℕ) where
   abbrev At : Verdict → Out → Type 0
-  At v c = Agrees w b (replyOf w) (passing v and isStatus (ask (w .dev .state))) (showJudged v w) c
+  At v c = Agrees w b (replyOf w) (passing v and handsStatus (ask (w .dev .state))) (showJudged v w) c
 
   by-each : At (inOrder (checks w (bulkIn b))) (step w (bulkIn b))
   unfolding step effect packetIn lent judged showJudged passing _and_
@@ -89,12 +89,12 @@ module _ (w : World) (b : List ℕ) where
 -- ---- one call
 
 -- with a status due
-by-status : (w : World) (v : Verdict) → passing v and isStatus (ask (w .dev .state)) ≡ true → showJudged v w ≡ shown Nak w extent.Nowhere
-unfolding passing isStatus showJudged showAsked showFrom _and_
+by-status : (w : World) (v : Verdict) → passing v and handsStatus (ask (w .dev .state)) ≡ true → showJudged v w ≡ shown Nak w extent.Nowhere
+unfolding passing handsStatus showJudged showAsked showFrom _and_
 by-status w (Refuses a) e = absurd (true≢false (sym e))
 by-status w Passes e = go (ask (w .dev .state)) e
   where
-    go : (a : Asked) → isStatus a ≡ true → showAsked a w ≡ shown Nak w extent.Nowhere
+    go : (a : Asked) → handsStatus a ≡ true → showAsked a w ≡ shown Nak w extent.Nowhere
     go (Quiet a) e = absurd (true≢false (sym e))
     go (Packet (source.Medium place n) s) e = absurd (true≢false (sym e))
     go (Packet (source.Reply q place n) s) e = absurd (true≢false (sym e))

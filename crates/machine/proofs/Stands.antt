@@ -30,7 +30,7 @@ use Rattle.machine.specs.Fits.{inFits, stageFits}
 use Rattle.machine.specs.World.{World, inState, Out, out, sends}
 use Rattle.machine.specs.Bulk.{packetSize, nextPacket, askStage, ask, bytesOf, deliver}
 use Rattle.machine.specs.Show.{replyAt, replyOf, bytesShown, Shown, shown, showFrom, showAsked}
-use Rattle.machine.specs.EitherCall.{isStatus, copied}
+use Rattle.machine.specs.EitherCall.{handsStatus, copied}
 use Rattle.machine.proofs.Tables.{unit-within}
 use Rattle.machine.proofs.Fit.{Fit, lun-fits, stage-fits}
 
@@ -57,7 +57,7 @@ module _ (w : World) (b : List ℕ) where
       (l, λ _. ap (λ (k : ℕ). out (Data k) (inState w t) (placed b 0 (part s a n))) (sym l) ∙ ap (λ (x : List ℕ). sends x (inState w t) b) (p ∙ e))
 
   abbrev Meets : List ℕ → Asked → Type 0
-  Meets r a = Agrees r (isStatus a) (showAsked a w) (deliver a w b)
+  Meets r a = Agrees r (handsStatus a) (showAsked a w) (deliver a w b)
 
   module _ (f : Fit w) (k : mediumFits (w .units) (w .medium) ≡ true) where
     -- a unit's bytes lie in its part of the medium
@@ -84,7 +84,7 @@ module _ (w : World) (b : List ℕ) where
         (part-of-part 0 (place + left) place (min packetSize left) d (omega arith) ∙ ap (λ (j : ℕ). take (min packetSize left) (drop j d)) (zero-add place))
 
     at-stage : (g : Stage) → w .dev .state .link .task .stage ≡ g → Meets (replyAt (w .dev .identity .number) g) (askStage g (w .dev .state))
-    unfolding askStage nextPacket replyAt isStatus showAsked showFrom deliver
+    unfolding askStage nextPacket replyAt handsStatus showAsked showFrom deliver
     at-stage Ready e = still _ _ Nak refl
     at-stage (DataOut block left held) e = still _ _ Nak refl
     at-stage (DataIn place left) e = by-if (Meets []) (eqb left 0) _ _ (λ _. still _ _ Nak refl) (λ _. in-unit place left e _)
@@ -92,5 +92,5 @@ module _ (w : World) (b : List ℕ) where
     at-stage (StatusDue status) e = (still [] true Nak refl .0, λ h. absurd (true≢false h))
 
     pub at-ask : Meets (replyOf w) (ask (w .dev .state))
-    unfolding ask isStatus showAsked deliver
+    unfolding ask handsStatus showAsked deliver
     at-ask = by-if (Meets (replyOf w)) (w .dev .state .link .haltin) _ _ (λ _. still _ _ Stall refl) (λ _. at-stage (w .dev .state .link .task .stage) refl)

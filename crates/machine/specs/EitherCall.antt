@@ -17,7 +17,7 @@ use Rattle.machine.specs.declared.show.Extent.the-variants as extent
 use Rattle.machine.specs.Answer.{countOf}
 use Rattle.machine.specs.World.{World, Out, out}
 use Rattle.machine.specs.Bulk.{packetSize, ask}
-use Rattle.machine.specs.Machine.{Event, bulkIn, inOrder, Seen, seen, Run, step, run}
+use Rattle.machine.specs.Machine.{Event, bulkIn, inOrder, seen, Run, step, run}
 use Rattle.machine.specs.Show.{replyOf, showChecks, bytesShown, Shown, shown, show}
 use Rattle.machine.specs.Tally.{Making, start}
 use Rattle.machine.specs.Claim.{answers, born, Makes, Recovers, Locks}
@@ -27,11 +27,11 @@ use Rattle.machine.specs.Ledger.{AllBytes, ledger, Balanced}
 -- ---- one call
 
 -- What an ask comes to is the status wrapper.
-unfoldable pub isStatus : Asked → Bool
-isStatus (Quiet a) = false
-isStatus (Packet (source.Medium place n) s) = false
-isStatus (Packet (source.Reply reply place n) s) = false
-isStatus (Packet (source.Status csw) s) = true
+unfoldable pub handsStatus : Asked → Bool
+handsStatus (Quiet a) = false
+handsStatus (Packet (source.Medium place n) s) = false
+handsStatus (Packet (source.Reply reply place n) s) = false
+handsStatus (Packet (source.Status csw) s) = true
 
 unfoldable pub passing : Verdict → Bool
 passing Passes = true
@@ -39,7 +39,7 @@ passing (Refuses a) = false
 
 -- The checks are passed, and the copying call would hand out the status wrapper.
 unfoldable pub statusNext : World → Bool
-statusNext w = passing (inOrder (showChecks w (replyOf w))) and isStatus (ask (w .dev .state))
+statusNext w = passing (inOrder (showChecks w (replyOf w))) and handsStatus (ask (w .dev .state))
 
 -- What a showing call leaves, as what a copying one would that was lent b: the bytes shown are put in front of it.
 abbrev pub copied : Shown → List ℕ → List ℕ → List ℕ → Out

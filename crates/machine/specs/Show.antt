@@ -1,6 +1,6 @@
 -- A packet shown where it already stands (document 02, A11), beside the copying call of Bulk.antt. The claim that they agree is in EitherCall.antt.
 use Prim.Native.Nat.{ℕ, _+_, _*_}
-use mathlib.Core.Bool.{Bool, true}
+use mathlib.Core.Bool.{true}
 use mathlib.Core.List.{List, []}
 use lib.Dec.{leb}
 use lib.ListN.{length, take}
