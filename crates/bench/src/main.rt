@@ -1,4 +1,6 @@
 // The bench: reads a recording from standard input, plays it, writes what is printed to standard output.
+#![tactic(auto)]
+
 use libc::{STDIN_FILENO, STDOUT_FILENO};
 use player::play::{MEDIUM, ROOM, play};
 

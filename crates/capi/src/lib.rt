@@ -1,6 +1,8 @@
 // The C interface: making a collector, the five events and the showing call over a record that C owns, and a table of units and
 // a medium that it lends. Each answers document 01's number, and leaves what the specification machine leaves; specs/Calls.antt
 // and specs/EitherRun.antt say what a list of calls comes to. include/collector.h declares it.
+#![tactic(auto)]
+
 ghost use Rattle.std.specs.Prelude.{ℕ, ◌≡◌, List, []};
 ghost use Rattle.machine.specs.Machine.{bus_reset, bulk_out, bulk_in, set_switch};
 ghost use Rattle.machine.specs.Machine as machines;

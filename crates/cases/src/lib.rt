@@ -1,5 +1,7 @@
 // The thirteen cases (BOT 6.7): what the host announces and what the device has decide what follows. Nothing here knows of SCSI
 // or of wrappers.
+#![tactic(auto)]
+
 ghost use Rattle.std.specs.Prelude.{◌≡◌};
 ghost use Rattle.cases.specs.Cases.{counted, plain, phase_error, same_way, case_of};
 

@@ -1,5 +1,7 @@
 // Making, the five events and the showing call on the record as C holds it, by value: what the exported functions of `capi` do.
 // Each is one equation with the specification machine, for every input.
+#![tactic(auto)]
+
 mod packets;
 pub mod place;
 mod quick;

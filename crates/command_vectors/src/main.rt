@@ -1,5 +1,7 @@
 // Runs the papers' worked values through the command reader and the replies, and prints what they give.
 // The file stdout was written from the papers, and the run is held to it.
+#![tactic(auto)]
+
 mod plans;
 mod print;
 mod replies;

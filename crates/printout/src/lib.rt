@@ -1,2 +1,4 @@
 // What the bench prints of a recording: its text, written into a lent buffer.
+#![tactic(auto)]
+
 pub mod print;

@@ -1,6 +1,8 @@
 // Plays recordings, each a file that an argument names, and writes each one's name and what is printed of it. The first is
 // played over one unit of 128 blocks, as document 01's bench sheet asks; those whose name begins with `units-` over four
 // units of different sizes; all others as the bench plays them.
+#![tactic(auto)]
+
 ghost use Rattle.io.specs.Counts.{IsPrefixLen};
 
 use libc::STDOUT_FILENO;

@@ -1,5 +1,7 @@
 // Runs the papers' worked values through the setup decoder and the descriptors, and prints what they give.
 // The file stdout was written from the papers, and the run is held to it.
+#![tactic(auto)]
+
 mod descriptors;
 mod print;
 mod requests;
