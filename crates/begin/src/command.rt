@@ -183,7 +183,7 @@ fn is_in_range(plan: Plan) -> bool
 }
 
 // What the command begins with.
-#[derive(Drop)]
+#[derive(Clone, Copy)]
 pub struct Begun {
     pub state: State,
     pub unit: LogicalUnit,

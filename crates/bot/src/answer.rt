@@ -1,5 +1,5 @@
 // How reading or writing a wrapper ends.
-#[derive(Drop)]
+#[derive(Clone, Copy)]
 pub enum Answer {
     // So many bytes were written.
     Written { count: usize },

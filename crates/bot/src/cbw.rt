@@ -8,7 +8,7 @@ use wire::fields::{le32, put_le32};
 use wire::slices::{put, starts_with};
 
 // The wrapper's fields before the command block.
-#[derive(Drop)]
+#[derive(Clone, Copy)]
 pub struct Header {
     pub tag: u32,
     // How many bytes of data the host expects to move, and whether towards itself.
@@ -19,19 +19,19 @@ pub struct Header {
     pub size: u8,
 }
 
-#[derive(Drop)]
+#[derive(Clone, Copy)]
 pub struct Cbw {
     pub header: Header,
     pub block: [u8; 16],
 }
 
-#[derive(Drop)]
+#[derive(Clone, Copy)]
 pub enum HeaderRead {
     Unreadable,
     Readable(Header),
 }
 
-#[derive(Drop)]
+#[derive(Clone, Copy)]
 pub struct CbwRead {
     pub answer: Answer,
     pub cbw: Cbw,

@@ -7,7 +7,7 @@ use crate::answer::Answer;
 use wire::fields::{le32, put_le32};
 use wire::slices::{put, starts_with};
 
-#[derive(Drop)]
+#[derive(Clone, Copy)]
 pub enum Status {
     Passed,
     Failed,
@@ -26,14 +26,14 @@ impl Status {
     }
 }
 
-#[derive(Drop)]
+#[derive(Clone, Copy)]
 pub struct Csw {
     pub tag: u32,
     pub residue: u32,
     pub status: Status,
 }
 
-#[derive(Drop)]
+#[derive(Clone, Copy)]
 pub struct CswRead {
     pub answer: Answer,
     pub csw: Csw,

@@ -109,7 +109,7 @@ fn stored_state(state: State, block: u32, left: u32) -> State
 }
 
 // What a packet of data leaves: it is acked, and cut short where its length is not 64.
-#[derive(Drop)]
+#[derive(Clone, Copy)]
 struct Taken {
     state: State,
     cut: bool,

@@ -28,7 +28,7 @@ use wire::packet::{Packet, packet_of};
 use wire::slices::{part, put_packet, same};
 
 // What a showing call answers, the state that it leaves, and where the packet stands.
-#[derive(Drop)]
+#[derive(Clone, Copy)]
 pub struct Shown {
     pub answer: Answer,
     pub state: State,

@@ -6,21 +6,21 @@ ghost use Rattle.std.specs.Prelude.{◌≡◌};
 ghost use Rattle.cases.specs.Cases.{counted, plain, phase_error, same_way, case_of};
 
 // Data in one direction, with its number of bytes.
-#[derive(Drop)]
+#[derive(Clone, Copy)]
 pub enum Transfer {
     None,
     In(u32),
     Out(u32),
 }
 
-#[derive(Drop)]
+#[derive(Clone, Copy)]
 pub enum Pipe {
     In,
     Out,
 }
 
 // Which pipe is halted, and when: where data moves the halt waits for its end.
-#[derive(Drop)]
+#[derive(Clone, Copy)]
 pub enum Halt {
     None,
     AtOnce(Pipe),
@@ -28,13 +28,13 @@ pub enum Halt {
 }
 
 // The status that the wrapper then gives: what the command itself gives (passed or failed), or a phase error.
-#[derive(Drop)]
+#[derive(Clone, Copy)]
 pub enum Ending {
     Command,
     PhaseError,
 }
 
-#[derive(Drop)]
+#[derive(Clone, Copy)]
 pub struct Case {
     pub moves: Transfer,
     pub halt: Halt,

@@ -56,7 +56,7 @@ fn ended(flat: Flat) -> Flat
 }
 
 // What a quick way leaves: the event is answered, or nothing was done.
-#[derive(Drop)]
+#[derive(Clone, Copy)]
 pub(crate) struct Quick {
     pub(crate) done: bool,
     pub(crate) told: Told,

@@ -9,7 +9,7 @@ use units::table::{Units, unit_at};
 use units::unit::{size_fits, switch_fits};
 
 // The unit's first block and its size, where the table is whole.
-#[derive(Drop)]
+#[derive(Clone, Copy)]
 pub struct Place {
     pub whole: bool,
     pub first: u32,

@@ -13,7 +13,7 @@ use machine::record::LogicalUnit;
 use units::table::Units;
 
 // What a showing call leaves: it changes no unit and no part block.
-#[derive(Drop)]
+#[derive(Clone, Copy)]
 pub struct ShowTurn {
     pub shown: Shown,
     pub flat: Flat,

@@ -9,7 +9,7 @@ use crecord::record::{Flat, Given, Shown};
 use units::unit::size_fits;
 
 // What the quick way of a showing call comes to: the call is answered, or nothing was done.
-#[derive(Drop)]
+#[derive(Clone, Copy)]
 pub struct QuickShow {
     pub done: bool,
     pub shown: Shown,

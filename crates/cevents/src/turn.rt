@@ -24,7 +24,7 @@ use units::change::{Change, apply, needed};
 use units::table::Units;
 
 // What an event leaves, but for the part block, which it is lent. Only where a unit changed is the table to be stored.
-#[derive(Drop)]
+#[derive(Clone, Copy)]
 pub struct Turn {
     pub told: Told,
     pub flat: Flat,
@@ -33,13 +33,13 @@ pub struct Turn {
 }
 
 // The same of an ask, which changes no unit.
-#[derive(Drop)]
+#[derive(Clone, Copy)]
 pub struct AskTurn {
     pub told: Told,
     pub flat: Flat,
 }
 
-#[derive(Drop)]
+#[derive(Clone, Copy)]
 pub struct MadeTurn {
     pub told: Told,
     pub record: Record,

@@ -12,7 +12,7 @@ use state::states::no_task;
 use units::table::{Units, as_made, laid_out, medium_fits};
 use usb::descriptor::Identity;
 
-#[derive(Drop)]
+#[derive(Clone, Copy)]
 pub struct Made {
     pub answer: Answer,
     pub device: Device,

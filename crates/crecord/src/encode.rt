@@ -39,7 +39,7 @@ fn flags_of(state: State) -> u8
 }
 
 // A stage's number, and the four that it gives a meaning.
-#[derive(Drop)]
+#[derive(Clone, Copy)]
 pub struct Numbers {
     pub stage: u8,
     pub place: u32,

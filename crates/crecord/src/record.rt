@@ -1,7 +1,7 @@
 // The record as C holds it: numbers alone, so that any bytes that C hands over are values. The table of units stands beside it,
 // in the structs of `machine`. include/collector.h has both again.
 #[repr(C)]
-#[derive(Drop)]
+#[derive(Clone, Copy)]
 pub struct Given {
     pub number: u64,
     pub vendor: u16,
@@ -11,7 +11,7 @@ pub struct Given {
 
 // The state as numbers. What place, left, value and extra mean, the stage says.
 #[repr(C)]
-#[derive(Drop)]
+#[derive(Clone, Copy)]
 pub struct Flat {
     pub residue: u32,
     pub place: u32,
@@ -29,7 +29,7 @@ pub struct Flat {
 }
 
 #[repr(C)]
-#[derive(Drop)]
+#[derive(Clone, Copy)]
 pub struct Record {
     pub given: Given,
     pub flat: Flat,
@@ -38,7 +38,7 @@ pub struct Record {
 
 // Document 01's number, and the count of bytes that data has.
 #[repr(C)]
-#[derive(Drop)]
+#[derive(Clone, Copy)]
 pub struct Told {
     pub number: u32,
     pub count: usize,
@@ -47,7 +47,7 @@ pub struct Told {
 // The same of a showing call, and where the packet stands: in the medium 1, in the reply 2, from a byte on; without data all
 // three are 0.
 #[repr(C)]
-#[derive(Drop)]
+#[derive(Clone, Copy)]
 pub struct Shown {
     pub number: u32,
     pub source: u32,

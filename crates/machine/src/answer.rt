@@ -1,5 +1,5 @@
 // How an event or a making ends.
-#[derive(Drop)]
+#[derive(Clone, Copy)]
 pub enum Answer {
     // The first `count` bytes of the lent buffer were written, or so many bytes are shown where they stand.
     Data { count: usize },
@@ -12,7 +12,7 @@ pub enum Answer {
     Refused { why: Refusal },
 }
 
-#[derive(Drop)]
+#[derive(Clone, Copy)]
 pub enum Refusal {
     // The record and its table do not fit together.
     Record,

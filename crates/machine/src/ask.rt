@@ -5,7 +5,7 @@ use bot::csw::Csw;
 use scsi::reply::Reply;
 
 // Where the bytes of a packet stand: in the unit's part of the medium or in a reply, from a place on, or in a status wrapper.
-#[derive(Drop)]
+#[derive(Clone, Copy)]
 pub enum Source {
     Medium {
         place: u32,
@@ -22,7 +22,7 @@ pub enum Source {
 }
 
 // Nothing is sent, and nothing changes; or a packet is sent, and this state follows.
-#[derive(Drop)]
+#[derive(Clone, Copy)]
 pub enum Asked {
     Quiet { answer: Answer },
     Packet { source: Source, state: State },

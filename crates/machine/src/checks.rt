@@ -2,7 +2,7 @@
 use crate::answer::Answer;
 
 // What is checked. Each is true where the event lends no such input.
-#[derive(Drop)]
+#[derive(Clone, Copy)]
 pub struct Checks {
     pub fits: bool,
     pub medium: bool,
@@ -14,7 +14,7 @@ pub struct Checks {
 }
 
 // The event goes on, or ends with this answer.
-#[derive(Drop)]
+#[derive(Clone, Copy)]
 pub enum Verdict {
     Passes,
     Refuses(Answer),

@@ -11,7 +11,7 @@ pub const MOST_BLOCKS: u32 = 1_048_576;
 // All that belongs to one logical unit: its part of the medium, from its first block on, its sense and its write switch.
 // C lends a table of these very structs.
 #[repr(C)]
-#[derive(Drop)]
+#[derive(Clone, Copy)]
 pub struct LogicalUnit {
     pub first: u32,
     pub blocks: u32,
@@ -21,7 +21,7 @@ pub struct LogicalUnit {
 }
 
 // How far the command in hand has come.
-#[derive(Drop)]
+#[derive(Clone, Copy)]
 pub enum Stage {
     // A wrapper is due.
     Ready,
@@ -37,7 +37,7 @@ pub enum Stage {
 }
 
 // The command in hand, and the unit that its wrapper named; the numbers are zero where none is.
-#[derive(Drop)]
+#[derive(Clone, Copy)]
 pub struct Task {
     pub stage: Stage,
     pub lun: u8,
@@ -47,7 +47,7 @@ pub struct Task {
 }
 
 // The Bulk-Only link: the halts of both pipes, the lock, the command in hand.
-#[derive(Drop)]
+#[derive(Clone, Copy)]
 pub struct Link {
     pub haltin: bool,
     pub haltout: bool,
@@ -55,14 +55,14 @@ pub struct Link {
     pub task: Task,
 }
 
-#[derive(Drop)]
+#[derive(Clone, Copy)]
 pub struct State {
     pub address: u8,
     pub configured: bool,
     pub link: Link,
 }
 
-#[derive(Drop)]
+#[derive(Clone, Copy)]
 pub struct Device {
     pub identity: Identity,
     pub state: State,

@@ -20,7 +20,7 @@ use units::table::Units;
 use wire::slices::byte;
 
 // What an event leaves: its answer, the record and the table, and of the buffer that it was lent the first `lent` bytes.
-#[derive(Drop)]
+#[derive(Clone, Copy)]
 struct EventResult {
     answer: Answer,
     device: Device,
@@ -132,7 +132,7 @@ fn event(device: Device, units: Units, kind: Kind, body: &[u8], medium: &mut [u8
 }
 
 // The record and the table after an event, and the place behind its line.
-#[derive(Drop)]
+#[derive(Clone, Copy)]
 pub(crate) struct Turn {
     pub device: Device,
     pub units: Units,

@@ -7,7 +7,7 @@ ghost use Rattle.recording.specs.Cursor.{reading, read_at, numbered};
 use wire::fields::le16;
 use wire::slices::byte;
 
-#[derive(Drop)]
+#[derive(Clone, Copy)]
 pub enum Kind {
     Reset,
     Control,
@@ -19,7 +19,7 @@ pub enum Kind {
 }
 
 // An event's kind and its body's length; then the next place.
-#[derive(Drop)]
+#[derive(Clone, Copy)]
 pub struct Reading {
     pub kind: Kind,
     pub len: usize,

@@ -4,7 +4,7 @@ ghost use Rattle.recording.specs.Cursor.{read_at, numbered};
 
 use crate::cursor::{Reading, read_at};
 
-#[derive(Drop)]
+#[derive(Clone, Copy)]
 pub struct Head<'a> {
     pub recording: &'a [u8],
     pub entry: usize,

@@ -12,7 +12,7 @@ use wire::fields::{be16, be32};
 use wire::slices::byte;
 
 // What the device has for a command.
-#[derive(Drop)]
+#[derive(Clone, Copy)]
 pub enum Plan {
     // It fails, with this sense, and has no data.
     Failed(Sense),

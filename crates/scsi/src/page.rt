@@ -9,7 +9,7 @@ use wire::packet::{Packet, packet_of};
 use wire::slices::put;
 use wire::texts::VENDOR;
 
-#[derive(Drop)]
+#[derive(Clone, Copy)]
 pub enum Page {
     // 00: the list of these pages.
     Supported,
@@ -20,7 +20,7 @@ pub enum Page {
 }
 
 // A page that is served, or none.
-#[derive(Drop)]
+#[derive(Clone, Copy)]
 pub enum Listed {
     Missing,
     Found(Page),

@@ -10,7 +10,7 @@ use wire::packet::{Packet, packet_of};
 use wire::slices::put;
 use wire::texts::{PRODUCT, VENDOR};
 
-#[derive(Drop)]
+#[derive(Clone, Copy)]
 pub enum ReplyKind {
     Sense,
     Inquiry,
@@ -19,7 +19,7 @@ pub enum ReplyKind {
     Capacity,
 }
 
-#[derive(Drop)]
+#[derive(Clone, Copy)]
 pub enum Reply {
     Sense(Sense),
     Inquiry,

@@ -4,7 +4,7 @@ ghost use Rattle.scsi.specs.Sense.{no_sense, out_of_range, is_no_sense, is_out_o
 
 // C sees this struct in its table of units.
 #[repr(C)]
-#[derive(Drop)]
+#[derive(Clone, Copy)]
 pub struct Sense {
     pub key: u8,
     pub asc: u8,

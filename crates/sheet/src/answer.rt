@@ -2,7 +2,7 @@
 ghost use Rattle.std.specs.Prelude.{◌≡◌};
 ghost use Rattle.sheet.specs.Answer.{refusal_number};
 
-#[derive(Drop)]
+#[derive(Clone, Copy)]
 pub enum Refusal {
     TooManyMeters,
     // A serial over twelve digits, a figure over ten, or half a reading.
@@ -31,7 +31,7 @@ impl Refusal {
     }
 }
 
-#[derive(Drop)]
+#[derive(Clone, Copy)]
 pub enum Made {
     // So many bytes of the buffer are the sheet.
     Written { count: usize },
@@ -39,7 +39,7 @@ pub enum Made {
     Refused(Refusal),
 }
 
-#[derive(Drop)]
+#[derive(Clone, Copy)]
 pub enum ReadBack {
     // So many serials, and so many readings of two numbers each, were written.
     Read { meters: usize, readings: usize },

@@ -7,7 +7,7 @@ use crate::answer::Refusal;
 use crate::lists::{FIGURE_LIMIT, SERIAL_LIMIT, all_below, distinct, figure_of, has};
 use crate::row::absent;
 
-#[derive(Drop)]
+#[derive(Clone, Copy)]
 pub enum Checked {
     Passed,
     Failed(Refusal),

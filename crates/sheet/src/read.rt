@@ -12,13 +12,13 @@ use crate::row::{Figure, HEAD, absent, last_line, line_in, row_of};
 use wire::slices::{part, same};
 
 // The rows of a sheet, looked at; so many have no figure.
-#[derive(Drop)]
+#[derive(Clone, Copy)]
 pub enum Rows {
     Right { missing: usize },
     Wrong,
 }
 
-#[derive(Drop)]
+#[derive(Clone, Copy)]
 pub enum Surveyed {
     Sheet { meters: usize, missing: usize },
     NotASheet,

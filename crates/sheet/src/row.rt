@@ -9,13 +9,13 @@ use wire::slices::{part, put, same};
 pub const HEAD: [u8; 16] = *b"SERIAL,READING\r\n";
 
 // What a meter's row shows.
-#[derive(Drop)]
+#[derive(Clone, Copy)]
 pub enum Figure {
     Of(u64),
     Missing,
 }
 
-#[derive(Drop)]
+#[derive(Clone, Copy)]
 pub struct Line {
     pub serial: u64,
     pub figure: Figure,

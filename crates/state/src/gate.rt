@@ -9,7 +9,7 @@ use machine::record::State;
 use units::change::Change;
 
 // What an event answers, the state that it leaves, and what it changes in the table.
-#[derive(Drop)]
+#[derive(Clone, Copy)]
 pub struct Moved {
     pub answer: Answer,
     pub state: State,
@@ -17,7 +17,7 @@ pub struct Moved {
 }
 
 // The same of an ask for a bulk-in packet, which never changes the table.
-#[derive(Drop)]
+#[derive(Clone, Copy)]
 pub struct Served {
     pub answer: Answer,
     pub state: State,

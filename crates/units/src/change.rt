@@ -10,7 +10,7 @@ use crate::unit::{with_sense, with_switch};
 use machine::record::LogicalUnit;
 use scsi::sense::Sense;
 
-#[derive(Drop)]
+#[derive(Clone, Copy)]
 pub enum Change {
     Kept,
     // Every sense is gone.

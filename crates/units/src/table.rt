@@ -11,7 +11,7 @@ use machine::record::LogicalUnit;
 use scsi::sense::Sense;
 
 // How many units there are, and the first four; those beyond the count are not looked at.
-#[derive(Drop)]
+#[derive(Clone, Copy)]
 pub struct Units {
     pub count: usize,
     pub unit0: LogicalUnit,

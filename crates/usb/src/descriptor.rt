@@ -9,7 +9,7 @@ use wire::packet::{Packet, packet_of};
 use wire::texts::{PRODUCT, VENDOR};
 
 // The numbers given at making; they never change.
-#[derive(Drop)]
+#[derive(Clone, Copy)]
 pub struct Identity {
     pub number: u64,
     pub vendor: u16,
@@ -17,7 +17,7 @@ pub struct Identity {
     pub release: u16,
 }
 
-#[derive(Drop)]
+#[derive(Clone, Copy)]
 pub enum Descriptor {
     Device,
     Configuration,

@@ -5,7 +5,7 @@ ghost use Rattle.usb.specs.Request.{is_no_data, bare, endpoint_of, target_of, ge
 use crate::descriptor::Descriptor;
 use wire::fields::{be16, le16};
 
-#[derive(Drop)]
+#[derive(Clone, Copy)]
 pub enum Endpoint {
     // 00 and 80: both directions of the control pipe.
     Control,
@@ -16,13 +16,13 @@ pub enum Endpoint {
 }
 
 // An endpoint that the device has, or none.
-#[derive(Drop)]
+#[derive(Clone, Copy)]
 pub enum Target {
     Missing,
     Found(Endpoint),
 }
 
-#[derive(Drop)]
+#[derive(Clone, Copy)]
 pub enum Request {
     SetAddress { address: u8 },
     SetConfiguration { value: u8 },

@@ -4,7 +4,7 @@ ghost use Rattle.wire.specs.Packet.{packet_of};
 
 use crate::slices::put;
 
-#[derive(Drop)]
+#[derive(Clone, Copy)]
 pub struct Packet {
     pub bytes: [u8; 64],
     pub len: usize,

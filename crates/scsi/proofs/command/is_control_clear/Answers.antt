@@ -1,0 +1,48 @@
+-- `is_control_clear` meets its contract: where a command's control byte stands goes by its length alone. Assumes nothing.
+use Prim.Native.Nat.{ℕ, ◌-◌}
+use mathlib.Core.Path.{◌≡◌, refl, sym}
+use mathlib.Core.Bool.{Bool, true}
+use mathlib.Core.List.{List}
+use lib.Dec.{lit≤, leb}
+use borrow.Author.Tests.{le-leb, lt-leb}
+use Rattle.wire.specs.Choice.{if◌then◌else◌}
+use Rattle.wire.specs.Bits.{clear}
+use Rattle.wire.specs.Slices.{byte_at}
+use Rattle.wire.proofs.Cases.{look-all}
+use Rattle.wire.proofs.Masks.{mask}
+use Rattle.scsi.specs.Command.{Command, commands, unknown, command_of, block_length, control_clear}
+use Rattle.scsi.proofs.command.is_control_clear.Goals as goal
+
+-- what the code tests
+abbrev last-clear : ℕ → List ℕ → Bool
+last-clear size b = if leb size 1 then true else clear 0 2 (byte_at b (size - 1))
+
+abbrev ByLength : Command → Type 0
+ByLength c = (b : List ℕ) → c.control b ≡ last-clear c.size b
+
+every-row : (code : ℕ) → ByLength (command_of code)
+unfolding command_of commands if◌then◌else◌
+every-row code =
+    look-all ByLength _ code unknown
+    ((λ b. refl), ((λ b. refl), ((λ b. refl), ((λ b. refl), ((λ b. refl), ((λ b. refl), ((λ b. refl), ((λ b. refl), ((λ b. refl), tt)))))))))
+    (λ b. refl)
+
+by_length : (b : List ℕ) → control_clear b ≡ last-clear (block_length (byte_at b 0)) b
+unfolding control_clear block_length
+by_length b = every-row (byte_at b 0) b
+
+pub returns-then-size-le1 : goal.returns-then-size-le1
+unfolding if◌then◌else◌
+returns-then-size-le1 c = simp (by_length, sym c.byte.ensures, sym c.block_length-size.ensures, le-leb _ _ c.if-size-le1.true)
+
+pub returns : goal.returns
+unfolding if◌then◌else◌
+returns c =
+    simp (
+      by_length,
+      sym c.byte.ensures,
+      sym c.block_length-size.ensures,
+      lt-leb _ _ c.if-size-le1.false,
+      sym c.byte-2.ensures,
+      mask 0 2 c.byte-2.result (lit≤ tt),
+    )
