@@ -24,10 +24,10 @@ use Rattle.machine.proofs.Lock.{locks}
 
 -- ---- history, record, table and medium are together from the making on
 
-length-stored : (us : Table) (m : List ℕ) (bs : List Block) → length (stored us m bs) ≡ length m
+length-stored : (us : Table) (bs : List Block) (m : List ℕ) → length (stored us m bs) ≡ length m
 unfolding stored
-length-stored us m [] = refl
-length-stored us m (b ∷ bs) = length-stored us _ bs ∙ length-placed m _ b.bytes
+length-stored us [] m = refl
+length-stored us (b ∷ bs) m = length-stored us bs _ ∙ length-placed m _ b.bytes
 
 module _ (k : Making) (ok : Makes k) where
   pub begins : Sim k (start k) (born k)
@@ -49,7 +49,7 @@ module _ (k : Making) (ok : Makes k) where
   calm es = ap cleared (sym (together es).units) ∙ cleared_again (lived k es).world.units ∙ (together es).units
 
   pub same_size : (es : List Event) → length (lived k es).world.medium ≡ length k.medium
-  same_size es = ap length (together es).medium ∙ length-stored (history k es).units k.medium (history k es).arrived
+  same_size es = ap length (together es).medium ∙ length-stored (history k es).units (history k es).arrived k.medium
 
 -- a dropped collector depends on identity, parts, switches, address and medium
 dropped-alike : (w w' : World) (a a' : ℕ) (vs : Table) → w.dev.identity ≡ w'.dev.identity → cleared w.units ≡ vs → w.medium ≡ w'.medium → a ≡ a'

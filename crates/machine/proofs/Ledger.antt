@@ -319,13 +319,13 @@ module _ (k : Making) (a : Account) (w : World) (s : Sim k a.log w) (h : Kept a.
 
 -- ---- every list
 
-on : (k : Making) (a : Account) (w : World) (es : List Event) → AllBytes es → Sim k a.log w → Kept a.book w.dev.state.link.task
+on : (k : Making) (es : List Event) (a : Account) (w : World) → AllBytes es → Sim k a.log w → Kept a.book w.dev.state.link.task
     → Balanced (observed booked a es (map handed (run w es).replies)).book
 unfolding observed booked run AllBytes
-on k a w [] y s h = balanced a.book _ h
-on k a w (e ∷ es) y s h = on k _ (step w e).world es y.1 (simulates k a.log w e s) (event k a w s h e y.0).kept
+on k [] a w y s h = balanced a.book _ h
+on k (e ∷ es) a w y s h = on k es _ (step w e).world y.1 (simulates k a.log w e s) (event k a w s h e y.0).kept
 
 pub keeps-ledger : Ledger
 unfolding Ledger ledger lived fresh Paid
 keeps-ledger k ok es y =
-    on k (opened k) (born k) es y (begins k ok) (subst (λ (w : World). Kept (book [] [] 0) w.dev.state.link.task) (sym (born-fresh k ok)) (record { stage = tt; owned = refl }))
+    on k es (opened k) (born k) y (begins k ok) (subst (λ (w : World). Kept (book [] [] 0) w.dev.state.link.task) (sym (born-fresh k ok)) (record { stage = tt; owned = refl }))

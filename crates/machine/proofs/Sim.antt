@@ -47,14 +47,14 @@ use Rattle.machine.proofs.Fit.{fit_of, Writes, writes}
 stored-append : (us : Table) (m : List ℕ) (xs bs : List Block) → stored us m (xs ++ bs) ≡ stored us (stored us m xs) bs
 unfolding stored
 stored-append us m [] bs = refl
-stored-append us m (x ∷ xs) bs = stored-append us _ xs bs
+stored-append us m (x ∷ xs) bs = stored-append us (placed m (512 * ((unit_at us x.lun).first + x.number)) x.bytes) xs bs
 
 -- where a block goes is its unit's part alone
 stored_same : (us vs : Table) (m : List ℕ) (bs : List Block) → as_made us ≡ as_made vs → stored us m bs ≡ stored vs m bs
 unfolding stored
 stored_same us vs m [] e = refl
 stored_same us vs m (b ∷ bs) e =
-    ap (λ (n : ℕ). stored us (placed m (512 * (n + b.number)) b.bytes) bs) (same_first us vs e b.lun) ∙ stored_same us vs _ bs e
+    ap (λ (n : ℕ). stored us (placed m (512 * (n + b.number)) b.bytes) bs) (same_first us vs e b.lun) ∙ stored_same us vs (placed m (512 * ((unit_at vs b.lun).first + b.number)) b.bytes) bs e
 
 -- ---- what the tally makes of a packet of data
 
