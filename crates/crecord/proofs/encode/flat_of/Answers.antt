@@ -4,4 +4,4 @@ use Rattle.crecord.proofs.encode.flat_of.Goals as goal
 
 pub returns : goal.returns
 unfolding flat_of flat_with
-returns c = simp (c.flags_of-flags.ensures, c.Numbers-of.ensures)
+returns c = simp (c.flags_of-flags.ensures, c.numbers_of-numbers.ensures)
