@@ -9,7 +9,6 @@ use lib.Dec.{leb}
 use lib.ListN.{length, take, length-take}
 use lib.Seq.{take_all}
 use denote.Enum.Declared.{tag_of}
-use types.Run.{OneOf}
 use Rattle.wire.specs.Slices.{placed}
 use Rattle.wire.specs.Packet.{packet_of}
 use Rattle.wire.specs.declared.packet.Packet.{Packet}
@@ -47,15 +46,12 @@ pub reply-held : (n : ℕ) (g : Stage) (k : Packet) → k ≡ packet_of (reply_a
 reply-held n g k e = held k (reply_at n g) e (short n g)
 
 -- The default of a `match` on the stage, after the arm of a reply.
-pub no_reply : (n : ℕ) (g : Stage) → OneOf (0 ∷ 1 ∷ 2 ∷ 4 ∷ []) (tag_of stage.the_type g) → reply_at n g ≡ []
+pub no_reply : (n : ℕ) (g : Stage) → ((q : replies.Reply) (place left : ℕ) → g ≡ ReplyIn q place left → ⊥) → reply_at n g ≡ []
 unfolding reply_at
 no_reply n Ready h = refl
 no_reply n (DataOut block left held) h = refl
 no_reply n (DataIn place left) h = refl
-no_reply n (ReplyIn q place left) (inl h) = absurd (omega arith)
-no_reply n (ReplyIn q place left) (inr (inl h)) = absurd (omega arith)
-no_reply n (ReplyIn q place left) (inr (inr (inl h))) = absurd (omega arith)
-no_reply n (ReplyIn q place left) (inr (inr (inr h))) = absurd (omega arith)
+no_reply n (ReplyIn q place left) h = absurd (h q place left refl)
 no_reply n (StatusDue status) h = refl
 
 -- The packet k of a whole reply, of which the record has what was sent and what is due.

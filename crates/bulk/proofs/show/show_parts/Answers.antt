@@ -1,0 +1,31 @@
+-- `show_parts` meets its contract. Assumes nothing.
+use mathlib.Core.Path.{ap, ◌∙◌}
+use mathlib.Core.List.{[]}
+use Rattle.machine.specs.Units.{medium_fits}
+use Rattle.machine.specs.Show.{told_shown}
+use Rattle.units.specs.Held.{table_of}
+use Rattle.bulk.proofs.Admission.{show-checks, show-sound}
+use Rattle.bulk.proofs.Running.{askable}
+use Rattle.bulk.proofs.Showing.{show-ended, show-passed}
+use Rattle.bulk.proofs.show.show_parts.Goals as goal
+
+pub show_packet-requires : goal.show_packet-requires
+unfolding medium_fits
+show_packet-requires c =
+    let a = c.args in
+    askable _ _ _ (show-sound a.identity a.state [] (table_of a.units) a.medium.now _ _ _ a.reply.now c.fits_reply.ensures c.medium_fits.ensures c.admit.ensures c.in-Passes.is)
+
+pub returns-in-Refuses : goal.returns-in-Refuses
+unfolding medium_fits
+returns-in-Refuses c =
+    λ p.
+    let a = c.args in
+    show-ended _ _ _ (show-checks a.identity a.state p (table_of a.units) a.medium.now c.admit.result _ _ a.reply.now c.fits_reply.ensures c.medium_fits.ensures c.admit.ensures) _ c.in-Refuses.is
+
+pub returns-in-Passes : goal.returns-in-Passes
+unfolding medium_fits
+returns-in-Passes c =
+    λ p.
+    let a = c.args in
+    ap told_shown (c.show_packet.ensures a.identity p a.medium.now)
+    ∙ show-passed _ _ _ (show-checks a.identity a.state p (table_of a.units) a.medium.now c.admit.result _ _ a.reply.now c.fits_reply.ensures c.medium_fits.ensures c.admit.ensures) c.in-Passes.is
