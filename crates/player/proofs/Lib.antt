@@ -1,7 +1,4 @@
 pub mod Answers
 pub mod Playing
 pub mod Room
-pub mod Again
-pub mod Calls
-pub mod Plays
 pub mod Loop
