@@ -1,10 +1,3 @@
-pub mod Again
 pub mod Calls
 pub mod EitherRun
-pub mod Elements
-pub mod Held
 pub mod Outcomes
-pub mod Reading
-pub mod Settled
-pub mod Test
-pub mod Whole

@@ -11,6 +11,7 @@ use Rattle.wire.specs.Choice.{if◌then◌else◌, ◌and◌}
 use Rattle.wire.proofs.Cases.{both, and_false, by-if, if-false}
 use Rattle.usb.specs.declared.descriptor.Identity.{Identity}
 use Rattle.machine.specs.Units.{size_fits, Table, unit_at, in_table, switches_fit, total, laid_out}
+use Rattle.machine.specs.declared.record.LogicalUnit.{LogicalUnit}
 use Rattle.machine.specs.Machine.{Event}
 use Rattle.units.specs.declared.table.Units.{Units}
 use Rattle.units.specs.Held.{held_of, table_of, put_back}
@@ -82,9 +83,16 @@ module _ (r : Record) (us : Table) (m : List ℕ) (e : Event) (t : Told) (r' : R
       let s = same us c h l (ap (λ (x : Left). x.units) q) in
       (λ i. left (q i).told (q i).rec (s i) (q i).medium (q i).buffer) ∙ beyond r us m e l)
 
+  -- the same of units that were taken out of the table, and put back where one changed
+  pub held_over : (v : Units) → v ≡ held_of us → (us' : Table) → us' ≡ kept c us h → Over (table_of v) → left t r' us' m' b' ≡ on_record r us m e
+  held_over v f us' g said = ap (λ (vs : Table). left t r' vs m' b') g ∙ over (subst (λ (x : Units). Over (table_of x)) f said)
+
   -- over a table of one unit, where that is put back
   pub over-one : length us ≡ 1 → Over (unit_at us 0 ∷ []) → left t r' (kept_one c us h.unit0) m' b' ≡ on_record r us m e
   over-one n said = subst (λ (vs : Table). left t r' vs m' b' ≡ on_record r us m e) (same-one us c h n) (subst Over (one us n) said)
+
+  pub held_one : length us ≡ 1 → (u : LogicalUnit) → u ≡ unit_at us 0 → (us' : Table) → us' ≡ kept_one c us h.unit0 → Over (u ∷ []) → left t r' us' m' b' ≡ on_record r us m e
+  held_one n u f us' g said = ap (λ (vs : Table). left t r' vs m' b') g ∙ over-one n (subst (λ (x : LogicalUnit). Over (x ∷ [])) f said)
 
 -- ---- a making
 
@@ -97,6 +105,11 @@ module _ (i : Identity) (us : Table) (m : List ℕ) (t : Told) (r' : Record) (c 
       let s = same us c h l (ap (λ (x : LeftMade). x.units) q) in
       (λ j. left_made (q j).told (q j).rec (s j)) ∙ sym (beyond_made i us m l))
 
+pub held_made : (i : Identity) (us : Table) (m : List ℕ) (t : Told) (r' : Record) (c : Bool) (h : Units) (v : Units) → v ≡ held_of us → (us' : Table) → us' ≡ kept c us h
+    → left_made t r' (kept c (table_of v) h) ≡ on_making i (table_of v) m → left_made t r' us' ≡ on_making i us m
+held_made i us m t r' c h v f us' g said =
+    ap (λ (vs : Table). left_made t r' vs) g ∙ over-made i us m t r' c h (subst (λ (x : Units). left_made t r' (kept c (table_of x) h) ≡ on_making i (table_of x) m) f said)
+
 -- ---- a showing call, and the record's reply
 
 module _ (r : Record) (us : Table) (m s : List ℕ) where
@@ -107,12 +120,21 @@ module _ (r : Record) (us : Table) (m s : List ℕ) where
       let q = said ∙ sym (beyond-shown r (seen us) m s k) in
       (λ i. left_shown (q i).shown (q i).rec us m) ∙ beyond-shown r us m s l)
 
+  pub held_shown : (t : Shown) (r' : Record) (v : Units) → v ≡ held_of us → left_shown t r' (table_of v) m ≡ show_on_record r (table_of v) m s → left_shown t r' us m ≡ show_on_record r us m s
+  held_shown t r' v f said = over-shown t r' (subst (λ (x : Units). left_shown t r' (table_of x) m ≡ show_on_record r (table_of x) m s) f said)
+
   pub over-one-shown : (t : Shown) (r' : Record) → length us ≡ 1 → left_shown t r' (unit_at us 0 ∷ []) m ≡ show_on_record r (unit_at us 0 ∷ []) m s → left_shown t r' us m ≡ show_on_record r us m s
   over-one-shown t r' n said = subst (λ (vs : Table). left_shown t r' vs m ≡ show_on_record r vs m s) (one us n) said
+
+  pub held_one_shown : (t : Shown) (r' : Record) → length us ≡ 1 → (u : LogicalUnit) → u ≡ unit_at us 0 → left_shown t r' (u ∷ []) m ≡ show_on_record r (u ∷ []) m s → left_shown t r' us m ≡ show_on_record r us m s
+  held_one_shown t r' n u f said = over-one-shown t r' n (subst (λ (x : LogicalUnit). left_shown t r' (x ∷ []) m ≡ show_on_record r (x ∷ []) m s) f said)
 
   pub over-reply : (t : Told) (b : List ℕ) → left_reply t b ≡ reply_on_record r (seen us) m s → left_reply t b ≡ reply_on_record r us m s
   over-reply t b said =
       by_size us (λ w. subst (λ (vs : Table). left_reply t b ≡ reply_on_record r vs m s) w said) (λ l k. said ∙ sym (beyond-reply r (seen us) m s k) ∙ beyond-reply r us m s l)
+
+  pub held_reply : (t : Told) (b : List ℕ) (v : Units) → v ≡ held_of us → left_reply t b ≡ reply_on_record r (table_of v) m s → left_reply t b ≡ reply_on_record r us m s
+  held_reply t b v f said = over-reply t b (subst (λ (x : Units). left_reply t b ≡ reply_on_record r (table_of x) m s) f said)
 
 -- ---- a place in a table
 
@@ -125,6 +147,12 @@ over-place us n m = by_size us (ap (λ (vs : Table). place_in vs n m)) (λ l k. 
 
 pub over-one-place : (us : Table) (n m : ℕ) → length us ≡ 1 → place_in (unit_at us 0 ∷ []) n m ≡ place_in us n m
 over-one-place us n m e = ap (λ (vs : Table). place_in vs n m) (one us e)
+
+pub held_place : (us : Table) (n m : ℕ) (v : Units) → v ≡ held_of us → (p : Place) → p ≡ place_in (table_of v) n m → p ≡ place_in us n m
+held_place us n m v f p said = said ∙ ap (λ (x : Units). place_in (table_of x) n m) f ∙ over-place us n m
+
+pub held_one_place : (us : Table) (n m : ℕ) → length us ≡ 1 → (u : LogicalUnit) → u ≡ unit_at us 0 → (p : Place) → p ≡ place_in (u ∷ []) n m → p ≡ place_in us n m
+held_one_place us n m e u f p said = said ∙ ap (λ (x : LogicalUnit). place_in (x ∷ []) n m) f ∙ over-one-place us n m e
 
 -- ---- the quick way of a showing call
 
