@@ -1,6 +1,6 @@
 -- The state and the unit that an accepted wrapper leaves, for any plan: one whose first block lies beyond every unit leaves them as they were.
 use Rattle.std.specs.Prelude.{Bool, true, leb}
-use Rattle.wire.specs.Choice.{if◌then◌else◌}
+use Rattle.wire.specs.Choice.{when◌then◌else◌}
 use Rattle.scsi.specs.declared.command.Plan.{Plan}
 use Rattle.scsi.specs.declared.command.Plan.TheVariants.{Failed, Nothing, Reply, Read, Write}
 use Rattle.bot.specs.declared.cbw.Header.{Header}
@@ -22,4 +22,4 @@ abbrev pub pair : State → LogicalUnit → Begun
 pair s u = record { state = s; unit = u }
 
 unfoldable pub begun_in_range : Header → Plan → State → LogicalUnit → Begun
-begun_in_range h p s u = if is_in_range p then pair (begun h p s u) (begun_unit h p u) else pair s u
+begun_in_range h p s u = when is_in_range p then pair (begun h p s u) (begun_unit h p u) else pair s u

@@ -9,7 +9,7 @@ use lib.Dec.{eqb, leb}
 use lib.ListN.{length, take, drop, drop_of_length-le}
 use lib.Seq.{take_at}
 use borrow.Author.Tests.{eqb-true, eqb-false, eq-eqb, le-leb, leb-true}
-use Rattle.wire.specs.Choice.{if◌then◌else◌, ◌and◌, look}
+use Rattle.wire.specs.Choice.{when◌then◌else◌, ◌and◌, look}
 use Rattle.wire.specs.Slices.{byte_at, bytes_at, Below, starts_with, fits, placed}
 use Rattle.wire.specs.Numbers.{little, little_bytes, low}
 use Rattle.wire.specs.Bits.{bits, clear}
@@ -150,8 +150,8 @@ written_of_read p bs e =
 
 -- ---- a choice between a wrapper and a refusal, told by its number
 
-taken : {A : Type 0} (f : A → ℕ) (t : Bool) (x y : A) {k m : ℕ} → f y ≡ m → (m ≡ k → ⊥) → f (if t then x else y) ≡ k → t ≡ true
-unfolding if◌then◌else◌
+taken : {A : Type 0} (f : A → ℕ) (t : Bool) (x y : A) {k m : ℕ} → f y ≡ m → (m ≡ k → ⊥) → f (when t then x else y) ≡ k → t ≡ true
+unfolding when◌then◌else◌
 taken f true x y n d e = refl
 taken f false x y n d e = absurd (d (sym n ∙ e))
 
@@ -216,13 +216,13 @@ found p x =
     P r = number_of r.answer ≡ 1 → Found p x r
 
 status-known : (p : List ℕ) (s : Status) → look (statuses p) (status_code s) refusal ≡ acceptance p s
-unfolding statuses look if◌then◌else◌
+unfolding statuses look when◌then◌else◌
 status-known p Passed = refl
 status-known p Failed = refl
 status-known p PhaseError = refl
 
 written-csw : (c : Csw) → IsCsw c → read_csw (csw_bytes c) ≡ record { number = 1; csw = c }
-unfolding read_csw csw_bytes low starts_with if◌then◌else◌ ◌and◌ acceptance bytes_at
+unfolding read_csw csw_bytes low starts_with when◌then◌else◌ ◌and◌ acceptance bytes_at
 written-csw c ok =
     ap shown (status-known (csw_bytes c) c.status)
     ∙ (λ i. record { number = 1; csw = record { tag = back32 c.tag ok.tag i; residue = back32 c.residue ok.residue i; status = c.status } })

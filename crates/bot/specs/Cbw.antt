@@ -1,6 +1,6 @@
 -- The command wrapper (BOT 5.1; document 01, "Wrappers").
 use Rattle.std.specs.Prelude.{ℕ, Bool, true, false, not, List, ◌∷◌, ◌++◌, eqb, leb, length, drop}
-use Rattle.wire.specs.Choice.{if◌then◌else◌, ◌and◌}
+use Rattle.wire.specs.Choice.{when◌then◌else◌, ◌and◌}
 use Rattle.wire.specs.Slices.{byte_at, bytes_at, zeros, starts_with, fits, placed}
 use Rattle.wire.specs.Numbers.{little, little_bytes}
 use Rattle.wire.specs.Bits.{bits, clear}
@@ -52,7 +52,7 @@ shown_header (Readable h) = fields 1 h
 shown_header Unreadable = fields 17 zero_header
 
 unfoldable pub read_header : List ℕ → Fields
-read_header p = if readable p then fields 1 (header_of p) else fields 17 zero_header
+read_header p = when readable p then fields 1 (header_of p) else fields 17 zero_header
 
 -- What reading all of it gives: the number and the fields.
 pub record Reading : Type 0 where
@@ -68,7 +68,7 @@ zero_cbw = record { header = zero_header; block = zeros 16 }
 -- "The command block is read where it stands, from byte 15 of the wrapper."
 unfoldable pub read_cbw : List ℕ → Reading
 read_cbw p =
-    if readable p
+    when readable p
     then record { number = 1; cbw = record { header = header_of p; block = drop 15 p } }
     else record { number = 17; cbw = zero_cbw }
 
@@ -89,6 +89,6 @@ writable h = leb h.lun 15 and leb 1 h.size and leb h.size 16
 
 unfoldable pub write_cbw : Cbw → List ℕ → Writing
 write_cbw c b =
-    if writable c.header and fits b 0 (cbw_bytes c)
+    when writable c.header and fits b 0 (cbw_bytes c)
     then writing 0 31 (placed b 0 (cbw_bytes c))
     else writing 17 0 b

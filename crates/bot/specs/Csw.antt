@@ -1,6 +1,6 @@
 -- The status wrapper (BOT 5.2; document 01, "Wrappers").
 use Rattle.std.specs.Prelude.{ℕ, List, [], ◌∷◌, ◌++◌, eqb, length}
-use Rattle.wire.specs.Choice.{if◌then◌else◌, ◌and◌, Row, row, look}
+use Rattle.wire.specs.Choice.{when◌then◌else◌, ◌and◌, Row, row, look}
 use Rattle.wire.specs.Slices.{byte_at, bytes_at, starts_with, fits, placed}
 use Rattle.wire.specs.Numbers.{little, little_bytes}
 use Rattle.wire.specs.Texts.{ascii}
@@ -55,12 +55,12 @@ statuses p =
 
 unfoldable pub read_csw : List ℕ → Reading
 read_csw p =
-    if eqb (length p) 13 and starts_with csw_signature p
+    when eqb (length p) 13 and starts_with csw_signature p
     then shown (look (statuses p) (byte_at p 12) refusal)
     else shown refusal
 
 unfoldable pub write_csw : Csw → List ℕ → Writing
 write_csw c b =
-    if fits b 0 (csw_bytes c)
+    when fits b 0 (csw_bytes c)
     then writing 0 13 (placed b 0 (csw_bytes c))
     else writing 17 0 b

@@ -1,6 +1,6 @@
 // A bulk-out packet, once its checks are passed: a wrapper, or data for the block being gathered.
 ghost use Rattle.std.specs.Prelude.{◌≡◌, true, List, [], ℕ, ◌≤◌};
-ghost use Rattle.wire.specs.Choice.{if◌then◌else◌};
+ghost use Rattle.wire.specs.Choice.{when◌then◌else◌};
 ghost use Rattle.scsi.specs.Sense.{data_phase};
 ghost use Rattle.machine.specs.declared.record.LogicalUnit as units;
 ghost use Rattle.usb.specs.declared.descriptor.Identity.{Identity};
@@ -126,7 +126,7 @@ fn on_data(
     packet: &[u8],
 ) -> Taken
     requires { Gathering state block left held medium.old }
-    ensures { (i : Identity) (u : units.LogicalUnit) → unit_out Answer.Ack (device i result.state part.new) (if result.cut then with_sense u data_phase else u) medium.new ≡ on_data block left held packet.now (device i state part.old) u medium.old }
+    ensures { (i : Identity) (u : units.LogicalUnit) → unit_out Answer.Ack (device i result.state part.new) (when result.cut then with_sense u data_phase else u) medium.new ≡ on_data block left held packet.now (device i state part.old) u medium.old }
 {
     if packet.len() != 64 {
         wipe(part);

@@ -3,7 +3,7 @@ use Prim.Native.Nat.{ℕ}
 use mathlib.Core.Path.{◌≡◌, refl, sym, ap, ◌∙◌, subst}
 use mathlib.Core.Bool.{true}
 use mathlib.Core.List.{List, [], ◌∷◌}
-use Rattle.wire.specs.Choice.{if◌then◌else◌, row, look}
+use Rattle.wire.specs.Choice.{when◌then◌else◌, row, look}
 use Rattle.wire.proofs.Cases.{if-true}
 use Rattle.machine.specs.declared.answer.Answer.{Answer}
 use Rattle.machine.specs.declared.answer.Answer.TheVariants.{Data, Ack, Nak, Stall, Silent, Refused}
@@ -76,7 +76,7 @@ answer_from n count =
     n (Refused refusal.Unit)
 
 known : (a : Answer) → answer_from (number_of a) (count_of a) ≡ a
-unfolding look if◌then◌else◌
+unfolding look when◌then◌else◌
 known (Data n) = refl
 known Ack = refl
 known Nak = refl

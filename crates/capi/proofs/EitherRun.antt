@@ -5,7 +5,7 @@ use mathlib.Core.List.{List, [], ◌∷◌}
 use lib.Dec.{leb}
 use lib.ListN.{length}
 use borrow.Author.Tests.{leb-true}
-use Rattle.wire.specs.Choice.{if◌then◌else◌, look}
+use Rattle.wire.specs.Choice.{when◌then◌else◌, look}
 use Rattle.wire.specs.Slices.{part, placed, zeros}
 use Rattle.wire.proofs.Cases.{if-true, by-if}
 use Rattle.wire.proofs.Parts.{length_part}
@@ -38,7 +38,7 @@ told_part m a c k =
     (λ _ l. ap (part m a) (sym l) ∙ by-if (λ (x : List ℕ). x ≡ []) (leb (a + 0) (length m)) _ _ (λ _. refl) (λ _. refl))
 
 told-bytes : (m s : List ℕ) (n k : ℕ) (x : Extent) → length (bytes_shown x m s) ≡ k → bytes_told (shown_as n k x) m s ≡ bytes_shown x m s
-unfolding bytes_told bytes_shown look if◌then◌else◌
+unfolding bytes_told bytes_shown look when◌then◌else◌
 told-bytes m s n k extent.Nowhere e = refl
 told-bytes m s n k (extent.Medium a c) e = told_part m a c k e
 told-bytes m s n k (extent.Reply a c) e = told_part s a c k e

@@ -7,7 +7,7 @@ use native.Mathlib.Omega.{arith}
 use lib.Dec.{leb, eqb}
 use lib.ListN.{length}
 use borrow.Author.Tests.{leb-true, leb-false}
-use Rattle.wire.specs.Choice.{if◌then◌else◌, ◌and◌}
+use Rattle.wire.specs.Choice.{when◌then◌else◌, ◌and◌}
 use Rattle.wire.proofs.Cases.{both, and_false, by-if, if-false}
 use Rattle.usb.specs.declared.descriptor.Identity.{Identity}
 use Rattle.machine.specs.Units.{size_fits, Table, unit_at, in_table, switches_fit, total, laid_out}
@@ -156,8 +156,8 @@ held_one_place us n m e u f p said = said ∙ ap (λ (x : LogicalUnit). place_in
 
 -- ---- the quick way of a showing call
 
-chosen : (b : Bool) (x y : QuickShow) → y.done ≡ false → (if b then x else y).done ≡ true → b ≡ true
-unfolding if◌then◌else◌
+chosen : (b : Bool) (x y : QuickShow) → y.done ≡ false → (when b then x else y).done ≡ true → b ≡ true
+unfolding when◌then◌else◌
 chosen true x y n e = refl
 chosen false x y n e = never (sym n ∙ e)
 

@@ -5,7 +5,7 @@ use mathlib.Core.Bool.{Bool, true, false}
 use native.Mathlib.Omega.{arith}
 use lib.Dec.{ltb, eqb}
 use borrow.Author.Tests.{ltb-true, ltb-false, eqb-true, eq-eqb, ne_eqb}
-use Rattle.wire.specs.Choice.{if◌then◌else◌}
+use Rattle.wire.specs.Choice.{when◌then◌else◌}
 use Rattle.wire.proofs.Cases.{by-if, if-true, if-false}
 use Rattle.cases.specs.declared.Transfer.{Transfer}
 use Rattle.cases.specs.declared.Transfer.TheVariants.{None, In, Out}
@@ -61,7 +61,7 @@ some pipe.Out n h = if-false _ _ _ (ne_eqb n 0 (λ e. omega arith))
 
 -- no more than is announced: all of it moves
 enough : (p : Pipe) (a n : ℕ) (t : Transfer) (b : Bool) → n ≤ a → ltb n a ≡ b → same_way p a n t ≡ plain t (after_data p a n)
-unfolding same_way after_data if◌then◌else◌
+unfolding same_way after_data when◌then◌else◌
 enough p a n t true l e = simp e
 enough p a n t false l e = let g = ltb-false n a e in let q : n ≡ a = omega arith in simp (e, eq-eqb n a q)
 

@@ -1,6 +1,6 @@
 -- Document 01's "The thirteen meetings of host and device" (BOT 6.7): what the host announces, what the device has, what follows.
 use Rattle.std.specs.Prelude.{ℕ, eqb, ltb}
-use Rattle.wire.specs.Choice.{if◌then◌else◌}
+use Rattle.wire.specs.Choice.{when◌then◌else◌}
 use Rattle.cases.specs.declared.Transfer.{Transfer}
 use Rattle.cases.specs.declared.Transfer.TheVariants.{None, In, Out}
 use Rattle.cases.specs.declared.Pipe.{Pipe}
@@ -20,15 +20,15 @@ phase_error h = record { moves = None; halt = h; ending = PhaseError }
 -- Both sides name this pipe: the device has less than is announced, equal, or more.
 unfoldable pub same_way : Pipe → ℕ → ℕ → Transfer → Case
 same_way p announced has t =
-    if ltb has announced then plain t (halt.AfterData p)
-    else (if eqb has announced then plain t halt.None
+    when ltb has announced then plain t (halt.AfterData p)
+    else (when eqb has announced then plain t halt.None
     else phase_error (halt.AtOnce p))
 
 -- "0 bytes count as none"; a direction is ignored at length 0.
 unfoldable pub counted : Transfer → Transfer
 counted None = None
-counted (In n) = if eqb n 0 then None else In n
-counted (Out n) = if eqb n 0 then None else Out n
+counted (In n) = when eqb n 0 then None else In n
+counted (Out n) = when eqb n 0 then None else Out n
 
 -- Host announces, device has, what follows.
 unfoldable pub meeting : Transfer → Transfer → Case

@@ -1,6 +1,6 @@
 -- What is claimed of the thirteen cases: how much moves, and that the halt after data comes exactly where some of the announced length is left. Proved in proofs/Moves.antt.
 use Rattle.std.specs.Prelude.{ℕ, ◌≤◌, ◌≡◌, Bool, true, false, ltb}
-use Rattle.wire.specs.Choice.{if◌then◌else◌}
+use Rattle.wire.specs.Choice.{when◌then◌else◌}
 use Rattle.cases.specs.declared.Transfer.{Transfer}
 use Rattle.cases.specs.declared.Transfer.TheVariants.{None, In, Out}
 use Rattle.cases.specs.declared.Pipe.{Pipe}
@@ -22,7 +22,7 @@ is_after_data (halt.AfterData p) = true
 
 -- A pipe over which `has` of the bytes announced go is halted after them exactly if they are fewer.
 unfoldable pub after_data : Pipe → ℕ → ℕ → Halt
-after_data p announced has = if ltb has announced then halt.AfterData p else halt.None
+after_data p announced has = when ltb has announced then halt.AfterData p else halt.None
 
 -- No data moves, and no halt waits for its end; or all of the device's data, which is no more than announced.
 pub data Follows (announced has : ℕ) : Case → Type 0 where

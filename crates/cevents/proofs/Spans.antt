@@ -8,7 +8,7 @@ use native.Mathlib.Omega.{arith}
 use lib.Dec.{eqb}
 use lib.ListN.{length, take, replicate}
 use borrow.Author.Tests.{leb-true, le-leb, eqb-true}
-use Rattle.wire.specs.Choice.{if◌then◌else◌, ◌and◌}
+use Rattle.wire.specs.Choice.{when◌then◌else◌, ◌and◌}
 use Rattle.wire.proofs.Cases.{both, by-if, if-true, if-false}
 use Rattle.machine.specs.declared.record.LogicalUnit.{LogicalUnit}
 use Rattle.machine.specs.Units.{size_fits, switch_fits, Table, every, switches_fit, total, follow, laid_out}
@@ -26,7 +26,7 @@ begins u start = eqb u.first start and size_fits u.blocks and switch_fits u.swit
 -- the block behind the last unit; 0 where one does not fit
 unfoldable pub ends : ℕ → Table → ℕ
 ends start [] = start
-ends start (u ∷ us) = if begins u start then ends (start + u.blocks) us else 0
+ends start (u ∷ us) = when begins u start then ends (start + u.blocks) us else 0
 
 some-blocks : (n : ℕ) → size_fits n ≡ true → 1 ≤ n
 unfolding size_fits
@@ -65,28 +65,28 @@ module _ (k : ℕ) (u : LogicalUnit) (us : Table) (start end : ℕ) (e : end ≡
 
 -- ---- the whole table
 
-merged : (a b c d e : Bool) (n : ℕ) → (if a and b and c then (if d and e then n else 0) else 0) ≡ (if (a and b and d) and (c and e) then n else 0)
-unfolding if◌then◌else◌ ◌and◌
+merged : (a b c d e : Bool) (n : ℕ) → (when a and b and c then (when d and e then n else 0) else 0) ≡ (when (a and b and d) and (c and e) then n else 0)
+unfolding when◌then◌else◌ ◌and◌
 merged true true true d e n = refl
 merged true true false true e n = refl
 merged true true false false e n = refl
 merged true false c d e n = refl
 merged false b c d e n = refl
 
-counts : (us : Table) (start : ℕ) → ends start us ≡ (if follow start us and switches_fit us then start + total us else 0)
-unfolding ends follow every total if◌then◌else◌ ◌and◌
+counts : (us : Table) (start : ℕ) → ends start us ≡ (when follow start us and switches_fit us then start + total us else 0)
+unfolding ends follow every total when◌then◌else◌ ◌and◌
 counts [] start = omega arith
 counts (u ∷ us) start =
     let z : start + u.blocks + total us ≡ start + (u.blocks + total us) = omega arith in
-    ap (λ (n : ℕ). if begins u start then n else 0) (counts us (start + u.blocks))
+    ap (λ (n : ℕ). when begins u start then n else 0) (counts us (start + u.blocks))
     ∙ merged (eqb u.first start) (size_fits u.blocks) (switch_fits u.switch) _ _ _
-    ∙ ap (λ (n : ℕ). if follow start (u ∷ us) and switches_fit (u ∷ us) then n else 0) z
+    ∙ ap (λ (n : ℕ). when follow start (u ∷ us) and switches_fit (u ∷ us) then n else 0) z
 
 spans : (us : Table) → 1 ≤ length us → length us ≤ 4 → ends 0 us ≡ spanned us
 unfolding spanned laid_out ◌and◌
 spans us l k =
     counts us 0
-    ∙ ap (λ (n : ℕ). if follow 0 us and switches_fit us then n else 0) (zero-add _)
+    ∙ ap (λ (n : ℕ). when follow 0 us and switches_fit us then n else 0) (zero-add _)
     ∙ simp (le-leb 1 (length us) l, le-leb (length us) 4 k)
 
 -- units by value

@@ -7,7 +7,7 @@ use native.Mathlib.Omega.{arith}
 use lib.Dec.{leb}
 use lib.ListN.{length}
 use borrow.Author.Tests.{le-leb, lt-leb, leb-true, leb-false}
-use Rattle.wire.specs.Choice.{if◌then◌else◌, ◌and◌}
+use Rattle.wire.specs.Choice.{when◌then◌else◌, ◌and◌}
 use Rattle.wire.proofs.Cases.{and_false, both, by-if, if-true, if-false}
 use Rattle.usb.specs.declared.descriptor.Identity.{Identity}
 use Rattle.machine.specs.declared.answer.Answer.{Answer}
@@ -124,7 +124,7 @@ module _ (g : Given) (f : flats.Flat) (h : Units) (setup p m b : List ℕ) (i : 
 -- ---- a change of the units held by value
 
 -- stored, it is the table's change
-pub changes : (h h' : Units) (x : Change) → h.count ≤ 4 → h'.count ≡ h.count → table_of h' ≡ (if leb h.count 4 then applied x (table_of h) else table_of h) → put_back (table_of h) h' ≡ applied x (table_of h)
+pub changes : (h h' : Units) (x : Change) → h.count ≤ 4 → h'.count ≡ h.count → table_of h' ≡ (when leb h.count 4 then applied x (table_of h) else table_of h) → put_back (table_of h) h' ≡ applied x (table_of h)
 changes h h' x n c e =
     let l = length-table h in
     put_back_lem (table_of h) h' (omega arith) (c ∙ sym l) ∙ e ∙ if-true _ _ _ (le-leb _ _ n)

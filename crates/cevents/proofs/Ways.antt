@@ -9,7 +9,7 @@ use lib.Dec.{eqb}
 use lib.ListN.{length, take, drop, set}
 use lib.Seq.{set-get_or}
 use borrow.Author.Tests.{leb-true, eqb-true, eqb-false, le-leb, lt-leb, lt-ltb, le-ltb, eq-eqb, ne_eqb}
-use Rattle.wire.specs.Choice.{if◌then◌else◌, ◌and◌, look}
+use Rattle.wire.specs.Choice.{when◌then◌else◌, ◌and◌, look}
 use Rattle.wire.specs.Slices.{zeros, placed}
 use Rattle.wire.specs.Bits.{bits}
 use Rattle.scsi.specs.Sense.{no_sense}
@@ -89,7 +89,7 @@ module _ (g : Given) (f : flats.Flat) (us : Table) (m : List ℕ) (place : Place
     here = over (dev s f.residue p)
 
     pub fit : fitting here ≡ true
-    unfolding address_fits idle_fits lock_fits task_fits if◌then◌else◌
+    unfolding address_fits idle_fits lock_fits task_fits when◌then◌else◌
     fit =
         fits_of_lem here (record {
           laid = h.laid;
@@ -124,24 +124,24 @@ module _ (g : Given) (f : flats.Flat) (us : Table) (m : List ℕ) (place : Place
     running = subst (λ (n : ℕ). in_fits (512 * n) f.place f.left f.announced f.residue ≡ true) h.blocks w.running
 
     pub reads_on_lem : Stands (DataIn f.place f.left)
-    unfolding stage_fits decodes state_from form_of look if◌then◌else◌ ◌and◌ no_value flag bits
+    unfolding stage_fits decodes state_from form_of look when◌then◌else◌ ◌and◌ no_value flag bits
     reads_on_lem = record { free = w.free; running = running; valid = simp (w.stage, w.value, w.free.extra, w.free.flags); is = simp (w.stage, w.free.flags) }
 
     -- what is then due
     abbrev pub after : State
-    after = if eqb f.left 64 then at (StatusDue Passed) 0 else at (DataIn (f.place + 64) (f.left - 64)) (f.residue - 64)
+    after = when eqb f.left 64 then at (StatusDue Passed) 0 else at (DataIn (f.place + 64) (f.left - 64)) (f.residue - 64)
 
     pub after-flat : flat_of after ≡ read_on f
-    unfolding flat_of flat_with numbers_of flags_of worth if◌then◌else◌ moved_on read_on
+    unfolding flat_of flat_with numbers_of flags_of worth when◌then◌else◌ moved_on read_on
     after-flat = either (eqb f.left 64)
       where
-        either : (b : Bool) → flat_of (if b then at (StatusDue Passed) 0 else at (DataIn (f.place + 64) (f.left - 64)) (f.residue - 64))
-            ≡ (if b then moved_on f 7 0 0 0 0 else moved_on f 2 (f.residue - 64) (f.place + 64) (f.left - 64) 0)
+        either : (b : Bool) → flat_of (when b then at (StatusDue Passed) 0 else at (DataIn (f.place + 64) (f.left - 64)) (f.residue - 64))
+            ≡ (when b then moved_on f 7 0 0 0 0 else moved_on f 2 (f.residue - 64) (f.place + 64) (f.left - 64) 0)
         either true = refl
         either false = refl
 
     pub hands : ask (at (DataIn f.place f.left) f.residue) ≡ Packet (source.Medium f.place 64) after
-    unfolding ask ask_stage next_packet handed_state moved halt_at_end next_in if◌then◌else◌
+    unfolding ask ask_stage next_packet handed_state moved halt_at_end next_in when◌then◌else◌
     hands =
         let k = w.packet in
         let n : min 64 f.left ≡ 64 = min-eq_left (omega arith) in
@@ -175,7 +175,7 @@ module _ (g : Given) (f : flats.Flat) (us : Table) (m : List ℕ) (place : Place
     csw = record { tag = f.tag; residue = f.residue; status = Passed }
 
     has-passed : Stands (StatusDue Passed)
-    unfolding stage_fits decodes state_from form_of look if◌then◌else◌ ◌and◌ no_numbers no_value flag bits
+    unfolding stage_fits decodes state_from form_of look when◌then◌else◌ ◌and◌ no_numbers no_value flag bits
     has-passed =
         record {
           free = w.free;
@@ -185,7 +185,7 @@ module _ (g : Given) (f : flats.Flat) (us : Table) (m : List ℕ) (place : Place
         }
 
     pub quick-status : (p : List ℕ) → on_record (rec g f p) us m (bulk_in b) ≡ left (answer 0 13) (rec g (ended f) p) us m (placed b 0 (csw_bytes csw))
-    unfolding ask ask_stage bytes_of after_status moved flat_of flat_with numbers_of flags_of worth if◌then◌else◌ ended
+    unfolding ask ask_stage bytes_of after_status moved flat_of flat_with numbers_of flags_of worth when◌then◌else◌ ended
     quick-status p = asks has-passed p b _ w.room (sym (delivers (here has-passed p) b (csw_bytes csw) (source.Status csw) _ 13 refl refl (length-csw csw)))
 
   -- ---- a whole packet of a write
@@ -195,13 +195,13 @@ module _ (g : Given) (f : flats.Flat) (us : Table) (m : List ℕ) (place : Place
     due = subst (λ (n : ℕ). out_fits n f.place f.left f.value f.announced f.residue ≡ true) h.blocks w.running
 
     gathers : Stands (DataOut f.place f.left f.value)
-    unfolding stage_fits decodes state_from form_of look if◌then◌else◌ ◌and◌ flag bits
+    unfolding stage_fits decodes state_from form_of look when◌then◌else◌ ◌and◌ flag bits
     gathers = record { free = w.free; running = due; valid = simp (w.stage, w.free.extra, w.free.flags); is = simp (w.stage, w.free.flags) }
 
     -- data changes no unit
     stored : (d : Device) (s m' : List ℕ) → on_data f.place f.left f.value q (here gathers p).dev u (part_of u m) ≡ unit_out Ack d u s → with_part u m s ≡ m'
         → on_record (rec g f p) us m (bulk_out q) ≡ leaves (told (out Ack (world d us m') []))
-    unfolding packet_out out_stage in_unit if◌then◌else◌
+    unfolding packet_out out_stage in_unit when◌then◌else◌
     stored d s m' e k =
         let some : 1 ≤ f.left = w.some in
         takes gathers p q _ (omega (arith, w.full))
@@ -212,7 +212,7 @@ module _ (g : Given) (f : flats.Flat) (us : Table) (m : List ℕ) (place : Place
 
     pub quick-part : f.value + 64 < 512 → on_record (rec g f p) us m (bulk_out q)
         ≡ left (answer 1 0) (rec g (moved_on f 1 f.residue f.place f.left (f.value + 64)) (placed p f.value q)) us m []
-    unfolding on_data if◌then◌else◌ gathered moved flat_of flat_with numbers_of flags_of worth moved_on gathered_state
+    unfolding on_data when◌then◌else◌ gathered moved flat_of flat_with numbers_of flags_of worth moved_on gathered_state
     quick-part k =
         stored (dev (DataOut f.place f.left (f.value + 64)) f.residue (placed p f.value q)) (part_of u m) m
         (simp (eq-eqb _ _ w.full, lt-ltb _ _ k))
@@ -228,14 +228,14 @@ module _ (g : Given) (f : flats.Flat) (us : Table) (m : List ℕ) (place : Place
 
     pub quick-block : 1 < f.left → length p ≡ 512 → (f.value + 64 < 512 → ⊥) → on_record (rec g f p) us m (bulk_out q)
         ≡ left (answer 1 0) (rec g (moved_on f 1 (f.residue - 512) (f.place + 1) (f.left - 1) 0) (zeros 512)) us (placed m (512 * (place.first + f.place)) (placed p f.value q)) []
-    unfolding on_data if◌then◌else◌ stored_block moved next_out halt_at_end flat_of flat_with numbers_of flags_of worth moved_on stored_state
+    unfolding on_data when◌then◌else◌ stored_block moved next_out halt_at_end flat_of flat_with numbers_of flags_of worth moved_on stored_state
     quick-block more n k =
         stored (dev (DataOut (f.place + 1) (f.left - 1) 0) (f.residue - 512) (zeros 512)) (placed (part_of u m) (512 * f.place) (placed p f.value q)) _
         (simp (eq-eqb _ _ w.full, le-ltb (f.value + 64) 512 (omega arith), lt-leb f.left 1 more)) (put-there n)
 
     pub quick-end : f.left ≡ 1 → f.residue ≡ 512 → length p ≡ 512 → (f.value + 64 < 512 → ⊥) → on_record (rec g f p) us m (bulk_out q)
         ≡ left (answer 1 0) (rec g (moved_on f 7 0 0 0 0) (zeros 512)) us (placed m (512 * (place.first + f.place)) (placed p f.value q)) []
-    unfolding on_data if◌then◌else◌ stored_block moved next_out halt_at_end flat_of flat_with numbers_of flags_of worth moved_on stored_state
+    unfolding on_data when◌then◌else◌ stored_block moved next_out halt_at_end flat_of flat_with numbers_of flags_of worth moved_on stored_state
     quick-end one rest n k =
         let z : f.residue - 512 ≡ 0 = omega arith in
         stored (dev (StatusDue Passed) 0 (zeros 512)) (placed (part_of u m) (512 * f.place) (placed p f.value q)) _

@@ -1,7 +1,7 @@
 -- What an exported function answers and leaves: the machine's step on the record that C's numbers stand for, over the table and the medium that are lent
 -- beside it.
 use Rattle.std.specs.Prelude.{ℕ, Bool, true, false, List}
-use Rattle.wire.specs.Choice.{if◌then◌else◌}
+use Rattle.wire.specs.Choice.{when◌then◌else◌}
 use Rattle.usb.specs.declared.descriptor.Identity.{Identity}
 use Rattle.machine.specs.Units.{Table}
 use Rattle.machine.specs.Making.{ToldMade, make, told_made}
@@ -30,7 +30,7 @@ leaves t = left (answer t.number t.count) (record_of t.world) t.world.units t.wo
 -- Numbers that stand for no record are answered 10 and left as they were.
 unfoldable pub on_record : Record → Table → List ℕ → Event → Left
 on_record r us m e =
-    if decodes r.flat
+    when decodes r.flat
     then leaves (told (step (world_from r us m) e))
     else left (answer 10 0) r us m (lent e)
 

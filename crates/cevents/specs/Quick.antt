@@ -1,6 +1,6 @@
 -- What a quick way promises: where it answers, what it leaves is what the event leaves, over any table in which the unit lies at the place given; where it does not, nothing was done.
 use Rattle.std.specs.Prelude.{ℕ, ◌+◌, ◌*◌, ◌≤◌, ◌≡◌, true, false, List, [], length, eqb}
-use Rattle.wire.specs.Choice.{if◌then◌else◌, ◌and◌}
+use Rattle.wire.specs.Choice.{when◌then◌else◌, ◌and◌}
 use Rattle.machine.specs.declared.show.Extent.TheVariants as extent
 use Rattle.machine.specs.Units.{most_blocks, size_fits, Table}
 use Rattle.machine.specs.Machine.{bulk_out, bulk_in}
@@ -33,6 +33,6 @@ not_shown f = record { done = false; shown = shown_as 10 0 extent.Nowhere; flat 
 
 unfoldable pub quick_show : Given → flats.Flat → Place → ℕ → shows.QuickShow
 quick_show g f place reply =
-    if eqb reply 0 and size_fits place.blocks and reads_on g f place.blocks 64
+    when eqb reply 0 and size_fits place.blocks and reads_on g f place.blocks 64
     then record { done = true; shown = shown_as 0 64 (extent.Medium (512 * place.first + f.place) 64); flat = read_on f }
     else not_shown f

@@ -1,6 +1,6 @@
 -- What the exported showing call leaves, and the reply that is lent to it (document 02, A11): machine/specs/Show.antt on the record that C's numbers stand for.
 use Rattle.std.specs.Prelude.{ℕ, List}
-use Rattle.wire.specs.Choice.{if◌then◌else◌}
+use Rattle.wire.specs.Choice.{when◌then◌else◌}
 use Rattle.machine.specs.declared.show.Extent.TheVariants as extent
 use Rattle.machine.specs.Units.{Table}
 use Rattle.machine.specs.Machine.{Told, told}
@@ -26,7 +26,7 @@ leaves_shown t = left_shown (shown_as t.number t.count t.at) (record_of t.world)
 -- Numbers that stand for no record are answered 10 and left as they were.
 unfoldable pub show_on_record : Record → Table → List ℕ → List ℕ → LeftShown
 show_on_record r us m s =
-    if decodes r.flat
+    when decodes r.flat
     then leaves_shown (told_shown (show (world_from r us m) s))
     else left_shown (shown_as 10 0 extent.Nowhere) r us m
 
@@ -43,4 +43,4 @@ abbrev pub leaves_reply : Told → LeftReply
 leaves_reply t = left_reply (answer t.number t.count) t.buffer
 
 unfoldable pub reply_on_record : Record → Table → List ℕ → List ℕ → LeftReply
-reply_on_record r us m b = if decodes r.flat then leaves_reply (told (give_reply (world_from r us m) b)) else left_reply (answer 10 0) b
+reply_on_record r us m b = when decodes r.flat then leaves_reply (told (give_reply (world_from r us m) b)) else left_reply (answer 10 0) b

@@ -1,6 +1,6 @@
 -- The premises of the quick ways: a whole packet of a read, a whole packet of a write, and the status of a command that passed.
 use Rattle.std.specs.Prelude.{ℕ, ◌+◌, ◌*◌, ◌-◌, ◌≤◌, ◌<◌, ◌≡◌, Bool, true, false, leb, eqb, length}
-use Rattle.wire.specs.Choice.{if◌then◌else◌, ◌and◌}
+use Rattle.wire.specs.Choice.{when◌then◌else◌, ◌and◌}
 use Rattle.machine.specs.Units.{Table, unit_at, in_table, switches_fit, total, laid_out}
 use Rattle.machine.specs.Fits.{number_fits, out_fits, in_fits}
 use Rattle.crecord.specs.declared.record.Given.{Given}
@@ -15,7 +15,7 @@ abbrev pub nowhere : Place
 nowhere = record { whole = false; first = 0; blocks = 0 }
 
 unfoldable pub place_in : Table → ℕ → ℕ → Place
-place_in us n medium = if in_table n us and laid_out us and switches_fit us and eqb medium (512 * total us) then found us n else nowhere
+place_in us n medium = when in_table n us and laid_out us and switches_fit us and eqb medium (512 * total us) then found us n else nowhere
 
 -- The same as facts, of a place that is given.
 pub record Whole (us : Table) (n medium : ℕ) (p : Place) : Type 0 where
@@ -56,7 +56,7 @@ reads_on g f blocks buffer =
     and eqb f.stage 2
     and eqb f.value 0
     and leb 64 f.left
-    and (if eqb f.left 64 then eqb f.residue 64 else true)
+    and (when eqb f.left 64 then eqb f.residue 64 else true)
     and in_fits (512 * blocks) f.place f.left f.announced f.residue
     and leb 64 buffer
 
@@ -96,7 +96,7 @@ moved_on f stage residue place left value =
 
 -- The same after a whole packet of a read: the status is due, or more of the data.
 unfoldable pub read_on : flats.Flat → flats.Flat
-read_on f = if eqb f.left 64 then moved_on f 7 0 0 0 0 else moved_on f 2 (f.residue - 64) (f.place + 64) (f.left - 64) 0
+read_on f = when eqb f.left 64 then moved_on f 7 0 0 0 0 else moved_on f 2 (f.residue - 64) (f.place + 64) (f.left - 64) 0
 
 -- The numbers once the command has ended.
 unfoldable pub ended : flats.Flat → flats.Flat

@@ -1,6 +1,6 @@
 // Clear and Set Feature: the halts of the bulk pipes (USB 2.0, 9.4.1 and 9.4.9).
 ghost use Rattle.std.specs.Prelude.{◌≡◌, true, List, ℕ};
-ghost use Rattle.wire.specs.Choice.{if◌then◌else◌};
+ghost use Rattle.wire.specs.Choice.{when◌then◌else◌};
 ghost use Rattle.machine.specs.World.{World, in_state, out};
 ghost use Rattle.machine.specs.Control.{needs_configured, clear_halt, set_halt};
 ghost use Rattle.state.specs.Moving.{moving};
@@ -33,14 +33,14 @@ fn acked(next: State, state: State) -> Moved
 
 // A locked device keeps both halts, whatever is asked.
 fn halt(on: bool, locked: bool) -> bool
-    ensures { result ≡ if locked then true else on }
+    ensures { result ≡ when locked then true else on }
 {
     if locked { true } else { on }
 }
 
 // Clear Feature is `on = false`. The control endpoint never halts: clearing has nothing to do, setting is refused.
 pub(crate) fn set_feature(on: bool, endpoint: Endpoint, state: State) -> Moved
-    ensures { (w : World) (b : List ℕ) → out result.answer (moving w result.state result.change) b ≡ if on then set_halt endpoint (in_state w state) b else clear_halt endpoint (in_state w state) b }
+    ensures { (w : World) (b : List ℕ) → out result.answer (moving w result.state result.change) b ≡ when on then set_halt endpoint (in_state w state) b else clear_halt endpoint (in_state w state) b }
 {
     let link = state.link;
     let locked = link.locked;

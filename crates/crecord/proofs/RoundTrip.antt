@@ -5,7 +5,7 @@ use mathlib.Core.Bool.{Bool, true, false}
 use native.Mathlib.Omega.{arith}
 use lib.Dec.{eqb, ltb}
 use borrow.Author.Tests.{eqb-true, eqb-false, le-leb, leb-true, lt-ltb, ltb-true}
-use Rattle.wire.specs.Choice.{if◌then◌else◌, ◌and◌, look}
+use Rattle.wire.specs.Choice.{when◌then◌else◌, ◌and◌, look}
 use Rattle.wire.specs.Bits.{bits}
 use Rattle.wire.specs.Numbers.{value}
 use Rattle.wire.proofs.Cases.{both, and_true, by-if, look_keyed}
@@ -31,12 +31,12 @@ use Rattle.crecord.specs.Claims.{IsState, RoundTrip}
 
 -- a flag in the place n is n times a bit
 worth_bit : (on : Bool) (n : ℕ) → (worth on n ≡ n * worth on 1) × (worth on 1 ≤ 1)
-unfolding worth if◌then◌else◌
+unfolding worth when◌then◌else◌
 worth_bit true n = (omega arith, omega arith)
 worth_bit false n = (omega arith, omega arith)
 
 bit_back : (on : Bool) (x : ℕ) → x ≡ worth on 1 → eqb x 1 ≡ on
-unfolding worth if◌then◌else◌
+unfolding worth when◌then◌else◌
 bit_back true x e = simp e
 bit_back false x e = simp e
 
@@ -114,7 +114,7 @@ abbrev ReadAs : Stage → Numbers → Type 0
 ReadAs g n = ((form_of n.stage).has n ≡ true) × ((form_of n.stage).stage n ≡ g)
 
 stage_back : (g : Stage) → ((n : Sense) (place left : ℕ) → g ≡ ReplyIn (reply.Sense n) place left → IsSense n) → ReadAs g (numbers_of g)
-unfolding numbers_of form_of look if◌then◌else◌ no_numbers no_value is_position is_page ◌and◌
+unfolding numbers_of form_of look when◌then◌else◌ no_numbers no_value is_position is_page ◌and◌
 stage_back Ready ok = (refl, refl)
 stage_back (DataOut block left held) ok = (refl, refl)
 stage_back (DataIn place left) ok = (refl, refl)

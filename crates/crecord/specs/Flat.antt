@@ -1,6 +1,6 @@
 -- The record as C holds it, numbers alone, and the device's state that they stand for. include/collector.h says the same in words.
 use Rattle.std.specs.Prelude.{ℕ, ◌+◌, ◌/◌, ◌%◌, ◌^◌, Bool, true, false, List, [], ◌∷◌, eqb, leb, ltb}
-use Rattle.wire.specs.Choice.{if◌then◌else◌, ◌and◌, Row, row, look}
+use Rattle.wire.specs.Choice.{when◌then◌else◌, ◌and◌, Row, row, look}
 use Rattle.wire.specs.Bits.{bits}
 use Rattle.wire.specs.Numbers.{little}
 use Rattle.scsi.specs.declared.sense.Sense.{Sense}
@@ -124,7 +124,7 @@ identity_from g = record { number = g.number; vendor = g.vendor; product = g.pro
 -- ---- writing
 
 unfoldable pub worth : Bool → ℕ → ℕ
-worth on n = if on then n else 0
+worth on n = when on then n else 0
 
 unfoldable pub numbers_of : Stage → Numbers
 numbers_of Ready = numbers 0 0 0 0 0

@@ -7,7 +7,7 @@ use native.Mathlib.Omega.{arith}
 use lib.Dec.{leb, eqb}
 use lib.ListN.{length}
 use borrow.Author.Tests.{ne_eqb}
-use Rattle.wire.specs.Choice.{if◌then◌else◌}
+use Rattle.wire.specs.Choice.{when◌then◌else◌}
 use Rattle.wire.proofs.Cases.{both, by-if, if-true, if-false}
 use Rattle.bot.proofs.Wrappers.{readable_long}
 use Rattle.machine.specs.declared.record.Stage.{Stage}
@@ -77,10 +77,10 @@ stage_of w p n (ReplyIn reply place left) a b = absurd (nak_ack a)
 stage_of w p n (StatusDue status) a b = absurd (nak_ack a)
 
 unhalted_of : (w : World) (p : List ℕ) → (packet_out w p).answer ≡ Ack → w.dev.state.link.haltout ≡ false
-unfolding packet_out if◌then◌else◌
+unfolding packet_out when◌then◌else◌
 unhalted_of w p = go w.dev.state.link.haltout
   where
-    go : (b : Bool) → (if b then out Stall w [] else out_stage w.dev.state.link.task.stage w p).answer ≡ Ack → b ≡ false
+    go : (b : Bool) → (when b then out Stall w [] else out_stage w.dev.state.link.task.stage w p).answer ≡ Ack → b ≡ false
     go true e = absurd (stall_ack e)
     go false e = refl
 

@@ -6,7 +6,7 @@ use mathlib.Core.List.{List, [], ◌∷◌}
 use native.Mathlib.Omega.{arith}
 use lib.ListN.{length}
 use borrow.Author.Tests.{le-leb}
-use Rattle.wire.specs.Choice.{if◌then◌else◌, ◌and◌}
+use Rattle.wire.specs.Choice.{when◌then◌else◌, ◌and◌}
 use Rattle.wire.specs.Slices.{zeros, same}
 use Rattle.wire.proofs.Cases.{and_false, by-if}
 use Rattle.wire.proofs.Same.{same_equal, same_self}
@@ -145,8 +145,8 @@ takes w (showing r) = by_same r (reply_of w) _ (λ e. subst (λ (q : List ℕ). 
 
 -- one call before a list of them, which is the run of its events
 joins : (w : World) (idle : Bool) (o : Out) (e : Event) (es : List Event) (r : Run) → r ≡ run o.world es → (idle ≡ true → o.world ≡ w) × (idle ≡ false → o ≡ step w e)
-    → record { replies = if idle then r.replies else seen o ∷ r.replies; world = r.world } ≡ run w (if idle then es else e ∷ es)
-unfolding run if◌then◌else◌
+    → record { replies = when idle then r.replies else seen o ∷ r.replies; world = r.world } ≡ run w (when idle then es else e ∷ es)
+unfolding run when◌then◌else◌
 joins w true o e es r i h = i ∙ ap (λ (v : World). run v es) (h.0 refl)
 joins w false o e es r i h =
     let p = h.1 refl in

@@ -6,7 +6,7 @@ use mathlib.Core.List.{[]}
 use native.Mathlib.Omega.{arith}
 use lib.Dec.{leb, ltb, eqb}
 use borrow.Author.Tests.{eqb-true, eqb-false, ltb-true, ltb-false, le-leb, lt-leb, lt-ltb, le-ltb}
-use Rattle.wire.specs.Choice.{if◌then◌else◌, ◌and◌}
+use Rattle.wire.specs.Choice.{when◌then◌else◌, ◌and◌}
 use Rattle.wire.proofs.Cases.{by-if}
 use Rattle.scsi.specs.declared.command.Plan.{Plan}
 use Rattle.scsi.specs.declared.command.Plan.TheVariants.{Failed, Nothing, Reply, Read, Write}
@@ -72,11 +72,11 @@ module _ (h : Header) (block count : ℕ) (u : LogicalUnit) where
   size = block_size * count
 
   idle-when : (ltb 0 count and not h.inward and leb size h.announced) ≡ false → {g : Stage} → Still g → Begun h.lun (write_of h write) g
-  unfolding write_of if◌then◌else◌
+  unfolding write_of when◌then◌else◌
   idle-when e s = rw e (still s)
 
   due-when : (ltb 0 count and not h.inward and leb size h.announced) ≡ true → 1 ≤ count → Begun h.lun (write_of h write) (DataOut block count 0)
-  unfolding write_of if◌then◌else◌
+  unfolding write_of when◌then◌else◌
   due-when e n = rw e (begins n)
 
   abbrev Agrees : Transfer → Transfer → Type 0

@@ -7,7 +7,7 @@ use native.Mathlib.Omega.{arith}
 use lib.Dec.{leb, ltb, eqb}
 use lib.ListN.{length}
 use borrow.Author.Tests.{leb-true, leb-false, ltb-true, ltb-false, eqb-true, lt-ltb, le-ltb, eq-eqb}
-use Rattle.wire.specs.Choice.{if◌then◌else◌}
+use Rattle.wire.specs.Choice.{when◌then◌else◌}
 use Rattle.wire.proofs.Cases.{by-if, if-true, if-false}
 use Rattle.scsi.specs.declared.command.Plan.{Plan}
 use Rattle.scsi.specs.declared.command.Plan.TheVariants.{Failed, Nothing, Reply, Read, Write}
@@ -84,19 +84,19 @@ module _ (s : State) where
 
   handed : (left : ℕ) (g : Stage) → s.link.haltin ≡ false → due now.stage ≡ left → left ≤ now.residue → due g ≡ left - 64 → is_status_due g ≡ false
       → GoesOn now (handed_state s (min 64 left) left g).link.task (handed_state s (min 64 left) left g).link.haltin
-  unfolding handed_state moved next_in due if◌then◌else◌
+  unfolding handed_state moved next_in due when◌then◌else◌
   handed left g h e l z n = go (leb left 64) refl
     where
       r : ℕ
       r = now.residue - min 64 left
 
-      go : (b : Bool) → leb left 64 ≡ b → GoesOn now (onward s (if b then StatusDue Passed else g) r) (halt_at_end b r s.link.haltin)
+      go : (b : Bool) → leb left 64 ≡ b → GoesOn now (onward s (when b then StatusDue Passed else g) r) (halt_at_end b r s.link.haltin)
       go true y = let k = leb-true left 64 y in last r _ h (omega arith) (StatusDue Passed) refl
       go false y = let k = leb-false left 64 y in more r _ g (omega arith) n
 
   stored : (block left held : ℕ) → s.link.haltout ≡ false → now.stage ≡ DataOut block left held → 0 < left → 512 * left ≤ now.residue
       → GoesOn now (stored_state s block left).link.task (stored_state s block left).link.haltout
-  unfolding stored_state moved next_out due is_status_due if◌then◌else◌
+  unfolding stored_state moved next_out due is_status_due when◌then◌else◌
   stored block left held h e p l = go (leb left 1) refl
     where
       r : ℕ
@@ -105,7 +105,7 @@ module _ (s : State) where
       d : due now.stage ≡ 512 * left
       d = ap due e
 
-      go : (b : Bool) → leb left 1 ≡ b → GoesOn now (onward s (if b then StatusDue Passed else DataOut (block + 1) (left - 1) 0) r) (halt_at_end b r s.link.haltout)
+      go : (b : Bool) → leb left 1 ≡ b → GoesOn now (onward s (when b then StatusDue Passed else DataOut (block + 1) (left - 1) 0) r) (halt_at_end b r s.link.haltout)
       go true y = let k = leb-true left 1 y in last r _ h (omega (arith, d)) (StatusDue Passed) refl
       go false y = let k = leb-false left 1 y in more r _ (DataOut (block + 1) (left - 1) 0) (omega (arith, d)) refl
 

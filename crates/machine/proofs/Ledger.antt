@@ -8,7 +8,7 @@ use native.Mathlib.Nat.{sub-zero}
 use lib.Dec.{ltb, eqb}
 use lib.ListN.{length, take, drop, set, length-append}
 use borrow.Author.Tests.{leb-true, eqb-false, ltb-true}
-use Rattle.wire.specs.Choice.{if◌then◌else◌, ◌and◌}
+use Rattle.wire.specs.Choice.{when◌then◌else◌, ◌and◌}
 use Rattle.wire.specs.Slices.{Below}
 use Rattle.wire.proofs.Cases.{by-if, if-true, if-false, both, and_false}
 use Rattle.wire.proofs.Parts.{length_part}
@@ -104,7 +104,7 @@ module _ (k : Making) (a : Account) (w : World) (s : Sim k a.log w) (h : Kept a.
 
   -- an answer that neither acks nor hands out
   quiet-book : (e : Event) (r : Answer) (v : World) (b : List ℕ) → is_ack r ≡ false → count_of r ≡ 0 → (booked a e (handed (seen (out r v b)))).book ≡ x
-  unfolding booked ends entered gave_packet is_status ◌and◌ if◌then◌else◌
+  unfolding booked ends entered gave_packet is_status ◌and◌ when◌then◌else◌
   quiet-book bus_reset r v b n z = if-false _ _ _ n
   quiet-book (control q c) r v b n z = if-false _ _ _ (not_both _ _ n)
   quiet-book (bulk_out p) r v b n z = if-false _ _ _ n
@@ -132,7 +132,7 @@ module _ (k : Making) (a : Account) (w : World) (s : Sim k a.log w) (h : Kept a.
     dropping r e n = ap is_drop e ∙ n
 
     hears : (r : Request) (o : Out) → request_of q ≡ r → Did w b r o → Enters a (control q b) o
-    unfolding is_drop is_ack with_halts with_address booked ends entered ◌and◌ if◌then◌else◌
+    unfolding is_drop is_ack with_halts with_address booked ends entered ◌and◌ when◌then◌else◌
     hears r o e stalls = quiet (control q b) Stall w b refl refl refl
     hears r o e (requests.sends y n) = stays (control q b) _ refl refl
     hears r o e (acks m) = minor r Ack w b e m.goes_on_lem refl
@@ -152,7 +152,7 @@ module _ (k : Making) (a : Account) (w : World) (s : Sim k a.log w) (h : Kept a.
 
     -- the bytes that are handed out are what the accountant sees
     sees : (y : List ℕ) (v : World) → length y ≤ 64 → Kept (gave_packet y x) v.dev.state.link.task → Enters a (bulk_in b) (sends y v b)
-    unfolding booked ends entered if◌then◌else◌
+    unfolding booked ends entered when◌then◌else◌
     sees y v n g = comes_to (bulk_in b) _ (gave_packet y x) (ap (λ (z : List ℕ). gave_packet z x) (in_front b y v (let r = in-room b b ok in omega arith))) g
 
     -- a packet of data
@@ -233,7 +233,7 @@ module _ (k : Making) (a : Account) (w : World) (s : Sim k a.log w) (h : Kept a.
 
     -- an acked packet is a wrapper or data by the tally
     acked : (t : Tally) (v : World) → l.tally ≡ t → Kept (took_packet t p (arrived_with l (bulk_out p) Ack) x) v.dev.state.link.task → Takes (out Ack v [])
-    unfolding booked ends entered is_ack if◌then◌else◌
+    unfolding booked ends entered is_ack when◌then◌else◌
     acked t v e g = comes_to (bulk_out p) _ _ (ap (λ (y : Tally). took_packet y p (arrived_with l (bulk_out p) Ack) x) e) g
 
     wrappers : Below 256 p → (y : Wrapper) → wrapper_of w.units p ≡ y → l.tally ≡ idle → Paid x.commands x.statuses → Takes (on_wrapper y w)
@@ -249,7 +249,7 @@ module _ (k : Making) (a : Account) (w : World) (s : Sim k a.log w) (h : Kept a.
 
     -- so many blocks arrive with it
     arrives : (t t' : Tally) (bs : List Block) → l.tally ≡ t → taken t p l ≡ turned l t' bs → arrived_with l (bulk_out p) Ack ≡ 512 * length bs
-    unfolding arrived_with noted heeded is_ack if◌then◌else◌
+    unfolding arrived_with noted heeded is_ack when◌then◌else◌
     arrives t t' bs e f =
         let n = length-append l.arrived bs in
         ap (λ (y : Log). 512 * (length y.arrived - length l.arrived)) (ap (λ (y : Tally). taken y p l) e ∙ f) ∙ omega arith
@@ -307,7 +307,7 @@ module _ (k : Making) (a : Account) (w : World) (s : Sim k a.log w) (h : Kept a.
   -- ---- any event
 
   effects : (e : Event) → IsBytes e → Checked w e → Enters a e (effect w e)
-  unfolding effect reset packet_out packet_in ask deliver booked ends entered is_ack if◌then◌else◌
+  unfolding effect reset packet_out packet_in ask deliver booked ends entered is_ack when◌then◌else◌
   effects bus_reset y ok = drops bus_reset 0 false false false [] refl
   effects (control q b) y ok = hears q b (request_of q) _ refl (performs w b (request_of q))
   effects (bulk_out p) y ok = by-if (Enters a (bulk_out p)) w.dev.state.link.haltout _ _ (λ _. ignored p ok Stall refl refl) (λ _. outs p ok y t₀.stage refl)

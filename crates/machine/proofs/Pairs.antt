@@ -4,7 +4,7 @@ use mathlib.Core.Path.{◌≡◌, refl, subst}
 use mathlib.Core.Bool.{Bool, true, false}
 use mathlib.Core.List.{List, [], ◌∷◌}
 use lib.ListN.{length}
-use Rattle.wire.specs.Choice.{if◌then◌else◌}
+use Rattle.wire.specs.Choice.{when◌then◌else◌}
 use Rattle.usb.specs.declared.descriptor.Identity.{Identity}
 use Rattle.usb.specs.declared.request.Endpoint.TheVariants.{Control, BulkIn, BulkOut}
 use Rattle.usb.specs.declared.request.Request.{Request}
@@ -22,11 +22,11 @@ use Rattle.machine.specs.Control.{needs_configured, endpoint_status, halt_in, ha
 use Rattle.machine.specs.Machine.{Event, lent, checks, in_order, effect, judged, step}
 use Rattle.machine.proofs.Judge.{Barred, Passed, by_verdict}
 
-pub pair_if : {A : Type 0} (R : A → A → Type 0) (c c' : Bool) (x y x' y' : A) → c ≡ c' → (c ≡ true → R x x') → (c ≡ false → R y y') → R (if c then x else y) (if c' then x' else y')
-unfolding if◌then◌else◌
-pair_if R c c' x y x' y' e f g = subst (λ (z : Bool). R (if c then x else y) (if z then x' else y')) e (go c f g)
+pub pair_if : {A : Type 0} (R : A → A → Type 0) (c c' : Bool) (x y x' y' : A) → c ≡ c' → (c ≡ true → R x x') → (c ≡ false → R y y') → R (when c then x else y) (when c' then x' else y')
+unfolding when◌then◌else◌
+pair_if R c c' x y x' y' e f g = subst (λ (z : Bool). R (when c then x else y) (when z then x' else y')) e (go c f g)
   where
-    go : (z : Bool) → (z ≡ true → R x x') → (z ≡ false → R y y') → R (if z then x else y) (if z then x' else y')
+    go : (z : Bool) → (z ≡ true → R x x') → (z ≡ false → R y y') → R (when z then x else y) (when z then x' else y')
     go true f g = f refl
     go false f g = g refl
 

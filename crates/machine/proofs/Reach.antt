@@ -8,7 +8,7 @@ use lib.Dec.{leb, ltb, eqb}
 use lib.ListN.{length, drop, set}
 use lib.Seq.{set-get_or}
 use borrow.Author.Tests.{leb-true, leb-false, ltb-true, eqb-true, eqb-false, le-leb, lt-ltb, eq-eqb}
-use Rattle.wire.specs.Choice.{if◌then◌else◌, ◌and◌}
+use Rattle.wire.specs.Choice.{when◌then◌else◌, ◌and◌}
 use Rattle.wire.proofs.Cases.{both, and_true, and_false, by-if, if-true, if-false}
 use Rattle.scsi.specs.Reply.{kind_of, reply_size}
 use Rattle.scsi.specs.Sense.{is_no_sense}
@@ -212,7 +212,7 @@ module _ (w : World) (f : Fit w) where
       }
 
   drops : (a : ℕ) (c hi ho : Bool) → address_fits a ≡ true → (c ≡ false → (not hi and not ho) ≡ true) → Fit (dropped w a c hi ho)
-  unfolding dropped dropped_state idle_fits lock_fits is_ready if◌then◌else◌ ◌and◌
+  unfolding dropped dropped_state idle_fits lock_fits is_ready when◌then◌else◌ ◌and◌
   drops a c hi ho l h =
       record {
         laid = same-laid (cleared us) us (made-cleared us) ∙ f.laid;
@@ -335,7 +335,7 @@ module _ (w : World) (f : Fit w) where
     idles = none-fits us f.laid
 
     after : (x : Status) → Fit (in_state w (after_status x s))
-    unfolding after_status locked_state with_halts moved idle_fits lock_fits if◌then◌else◌ ◌and◌
+    unfolding after_status locked_state with_halts moved idle_fits lock_fits when◌then◌else◌ ◌and◌
     after status.Passed = onwards _ _ no_task idles
     after status.Failed = onwards _ _ no_task idles
     after status.PhaseError = let h = onwards true true no_task idles in record { laid = h.laid; switches = h.switches; number = h.number; address = h.address; idle = if-true _ _ _ c; lock = refl; task = idles }

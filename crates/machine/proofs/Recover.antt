@@ -8,7 +8,7 @@ use native.Mathlib.Nat.{add-zero}
 use native.Mathlib.Omega.{arith}
 use lib.ListN.{length, replicate}
 use borrow.Author.Tests.{le-leb, lt-ltb, eq-eqb}
-use Rattle.wire.specs.Choice.{if◌then◌else◌, ◌and◌, look}
+use Rattle.wire.specs.Choice.{when◌then◌else◌, ◌and◌, look}
 use Rattle.wire.specs.Slices.{bytes_at}
 use Rattle.wire.specs.Numbers.{value}
 use Rattle.wire.proofs.Cases.{if-true, both, and_true}
@@ -35,23 +35,23 @@ use Rattle.machine.proofs.Reach.{none-fits, stays_fit}
 -- ---- the setups that the demand names are read as what they ask for
 
 read-reset : request_of (setup 0x21 0xFF 0 0) ≡ MassStorageReset
-unfolding request_of decided requests look bare bytes_at value if◌then◌else◌ ◌and◌
+unfolding request_of decided requests look bare bytes_at value when◌then◌else◌ ◌and◌
 read-reset = refl
 
 read-clear_in : request_of (setup 0x02 0x01 0 0x81) ≡ ClearHalt BulkIn
-unfolding request_of decided requests look target_of endpoint_of endpoints bytes_at value if◌then◌else◌ ◌and◌
+unfolding request_of decided requests look target_of endpoint_of endpoints bytes_at value when◌then◌else◌ ◌and◌
 read-clear_in = refl
 
 read-clear-out : request_of (setup 0x02 0x01 0 0x02) ≡ ClearHalt BulkOut
-unfolding request_of decided requests look target_of endpoint_of endpoints bytes_at value if◌then◌else◌ ◌and◌
+unfolding request_of decided requests look target_of endpoint_of endpoints bytes_at value when◌then◌else◌ ◌and◌
 read-clear-out = refl
 
 read-configure : request_of (setup 0x00 0x09 1 0) ≡ SetConfiguration 1
-unfolding request_of decided requests look set_configuration is_no_data bytes_at value if◌then◌else◌ ◌and◌
+unfolding request_of decided requests look set_configuration is_no_data bytes_at value when◌then◌else◌ ◌and◌
 read-configure = refl
 
 read-address : (a : ℕ) → a ≤ 0x7F → request_of (setup 0x00 0x05 a 0) ≡ SetAddress a
-unfolding request_of decided requests look set_address is_no_data bytes_at value if◌then◌else◌ ◌and◌
+unfolding request_of decided requests look set_address is_no_data bytes_at value when◌then◌else◌ ◌and◌
 read-address a h = simp (add-zero a, le-leb a 0x7F h)
 
 -- ---- an acked control request passed its checks and was performed
@@ -74,12 +74,12 @@ stall_ack = refl
 -- where it needs a configured device, that was one
 performed : (w : World) (q b : List ℕ) (r : Request) (w' : World) → request_of q ≡ r → perform r w b ≡ needs_configured w b (out Ack w' b)
     → (step w (control q b)).answer ≡ Ack → step w (control q b) ≡ out Ack w' b
-unfolding needs_configured if◌then◌else◌
+unfolding needs_configured when◌then◌else◌
 performed w q b r w' e f a =
-    let z : step w (control q b) ≡ (if w.dev.state.configured then out Ack w' b else out Stall w b) = (acked w q b a).0 ∙ ap (λ (x : Request). perform x w b) e ∙ f in
+    let z : step w (control q b) ≡ (when w.dev.state.configured then out Ack w' b else out Stall w b) = (acked w q b a).0 ∙ ap (λ (x : Request). perform x w b) e ∙ f in
     z ∙ go w.dev.state.configured (sym (ap (λ (o : Out). o.answer) z) ∙ a)
   where
-    go : (c : Bool) → (if c then out Ack w' b else out Stall w b).answer ≡ Ack → (if c then out Ack w' b else out Stall w b) ≡ out Ack w' b
+    go : (c : Bool) → (when c then out Ack w' b else out Stall w b).answer ≡ Ack → (when c then out Ack w' b else out Stall w b) ≡ out Ack w' b
     go true h = refl
     go false h = absurd (not_ack stall_ack h)
 
@@ -123,7 +123,7 @@ three w e f g w₁ w₂ w₃ x y z l₁ l₂ l₃ h =
 
 pub recovered : (w : World) (order : Bool) (x y z : List ℕ) → answers (run w (recovery order x y z)).replies ≡ (Ack ∷ Ack ∷ Ack ∷ [])
     → (run w (recovery order x y z)).world ≡ dropped w w.dev.state.address true false false
-unfolding recovery dropped dropped_state with_halts halt_in halt_out if◌then◌else◌
+unfolding recovery dropped dropped_state with_halts halt_in halt_out when◌then◌else◌
 recovered w true x y z h =
     three w _ _ _ _ _ _ x y z (reset-acked w x) (clear_in_acked (dropped w w.dev.state.address true w.dev.state.link.haltin w.dev.state.link.haltout) y)
     (clear-out-acked (dropped w w.dev.state.address true false w.dev.state.link.haltout) z) h
@@ -187,7 +187,7 @@ module _ (k : Making) (s : Sound k) where
   laid = laid-made k.units ∙ s.laid
 
   pub fits_fresh : fitting new ≡ true
-  unfolding fits fresh address_fits idle_fits is_ready lock_fits if◌then◌else◌ ◌and◌
+  unfolding fits fresh address_fits idle_fits is_ready lock_fits when◌then◌else◌ ◌and◌
   fits_fresh = simp (laid, fits-made k.units, s.numbered, calm_made k.units, none-fits (as_made k.units) laid)
 
   module _ (a : ℕ) (x y : List ℕ) (low : a ≤ 0x7F) (hx : 64 ≤ length x) (hy : 64 ≤ length y) where
@@ -195,7 +195,7 @@ module _ (k : Making) (s : Sound k) where
     named = in_state new (with_address (fresh k.identity).state a)
 
     addressed : step new (control (setup 0x00 0x05 a 0) x) ≡ out Ack named x
-    unfolding perform fresh if◌then◌else◌
+    unfolding perform fresh when◌then◌else◌
     addressed = control_passed new _ x (SetAddress a) fits_fresh hx refl (read-address a low)
 
     fits-named : fitting named ≡ true

@@ -4,7 +4,7 @@ use mathlib.Core.Path.{◌≡◌, refl, ap, subst, ◌∙◌}
 use mathlib.Core.Bool.{true}
 use lib.Seq.{get_or-set_same}
 use borrow.Author.Tests.{le-leb}
-use Rattle.wire.specs.Choice.{if◌then◌else◌, ◌and◌}
+use Rattle.wire.specs.Choice.{when◌then◌else◌, ◌and◌}
 use Rattle.scsi.specs.Sense.{is_out_of_range}
 use Rattle.scsi.specs.declared.sense.Sense.{Sense}
 use Rattle.scsi.specs.declared.command.Plan.TheVariants.{Failed}
@@ -42,7 +42,7 @@ abbrev Carried : ℕ → Sense → Type 0
 Carried blocks s = carries blocks s ≡ true
 
 made : Makes Carried
-unfolding carries is_out_of_range if◌then◌else◌ ◌and◌
+unfolding carries is_out_of_range when◌then◌else◌ ◌and◌
 made = record {
   none = λ blocks. refl;
   phase = λ blocks. refl;

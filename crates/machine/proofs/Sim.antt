@@ -8,7 +8,7 @@ use lib.ListN.{length, set, length-append}
 use lib.Seq.{set-get_or}
 use lib.Dec.{leb, ltb, eqb, lit<}
 use borrow.Author.Tests.{eqb-true, eq-eqb, ne_eqb, ltb-true, ltb-false, leb-false}
-use Rattle.wire.specs.Choice.{if◌then◌else◌}
+use Rattle.wire.specs.Choice.{when◌then◌else◌}
 use Rattle.wire.specs.Slices.{zeros, placed}
 use Rattle.wire.proofs.Cases.{by-if, if-true, if-false}
 use Rattle.bot.specs.declared.csw.Status.{Status}
@@ -132,10 +132,10 @@ begun_together b (begins h) e = gathers (empty h e)
 
 -- after a whole block
 follows : (v block left : ℕ) → Together (following v block left) (next_out block left) v (zeros 512)
-unfolding following next_out if◌then◌else◌
+unfolding following next_out when◌then◌else◌
 follows v block left = go (leb left 1) refl
   where
-    go : (c : Bool) → leb left 1 ≡ c → Together (if c then idle else writing v (block + 1) (left - 1) []) (if c then StatusDue Passed else DataOut (block + 1) (left - 1) 0) v (zeros 512)
+    go : (c : Bool) → leb left 1 ≡ c → Together (when c then idle else writing v (block + 1) (left - 1) []) (when c then StatusDue Passed else DataOut (block + 1) (left - 1) 0) v (zeros 512)
     go true e = rests tt refl
     go false e = let n : 1 ≤ left - 1 = omega (arith, leb-false left 1 e) in gathers (empty n refl)
 
@@ -159,7 +159,7 @@ module _ (k : Making) (l : Log) (w : World) (s : Sim k l w) where
   ignored e a h = quiet e a w h s
 
   loud : (e : Event) (w' : World) → Sim k (heeded l e) w' → Sim k (noted l e Ack) w'
-  unfolding noted is_ack if◌then◌else◌
+  unfolding noted is_ack when◌then◌else◌
   loud e w' i = i
 
   halted : (hi ho x : Bool) → Sim k l (in_state w (with_halts d.state hi ho x))

@@ -6,7 +6,7 @@ use mathlib.Core.List.{List, [], ◌∷◌}
 use lib.Dec.{eqb, ltb}
 use lib.ListN.{length, take, drop, set}
 use lib.Seq.{set-get_or}
-use Rattle.wire.specs.Choice.{if◌then◌else◌, ◌and◌}
+use Rattle.wire.specs.Choice.{when◌then◌else◌, ◌and◌}
 use Rattle.wire.specs.Slices.{placed}
 use Rattle.scsi.specs.Sense.{data_phase}
 use Rattle.scsi.specs.declared.sense.Sense.{Sense}
@@ -43,13 +43,13 @@ use Rattle.machine.proofs.Reach.{turns as stays_fit}
 
 sets : (w : World) (x n : ℕ)
     → step w (set_switch x n)
-    ≡ (if fitting w and switch_fits x then (if in_table n w.units then out Ack (switched w x n) [] else out (Refused refusal.Unit) w []) else out (Refused refusal.Record) w [])
-unfolding step checks check in_order effect judged lent if◌then◌else◌
+    ≡ (when fitting w and switch_fits x then (when in_table n w.units then out Ack (switched w x n) [] else out (Refused refusal.Unit) w []) else out (Refused refusal.Record) w [])
+unfolding step checks check in_order effect judged lent when◌then◌else◌
 sets w x n = go (fitting w and switch_fits x) (in_table n w.units)
   where
     go : (b c : Bool)
         → judged (check b (Refused refusal.Record) (check c (Refused refusal.Unit) Passes)) w [] (out Ack (switched w x n) [])
-        ≡ (if b then (if c then out Ack (switched w x n) [] else out (Refused refusal.Unit) w []) else out (Refused refusal.Record) w [])
+        ≡ (when b then (when c then out Ack (switched w x n) [] else out (Refused refusal.Unit) w []) else out (Refused refusal.Record) w [])
     go true true = refl
     go true false = refl
     go false c = refl
@@ -121,7 +121,7 @@ module _ (w : World) (x j : ℕ) where
     u' = unit_at us' n
 
     datas : (block left held : ℕ) (p : List ℕ) → Over (in_unit w n (on_data block left held p)) (in_unit w' n (on_data block left held p))
-    unfolding in_unit on_data if◌then◌else◌
+    unfolding in_unit on_data when◌then◌else◌
     datas block left held p = go (eqb (length p) packet_size) (ltb (held + packet_size) block_size)
       where
         m : List ℕ
@@ -132,8 +132,8 @@ module _ (w : World) (x j : ℕ) where
 
         there : Bool → Bool → LogicalUnit → UnitOut
         there c d y =
-            if c
-            then (if d
+            when c
+            then (when d
             then unit_out Ack (gathered w.dev block left held p) y (part_of y m)
             else unit_out Ack (stored_block w.dev block left) y (placed (part_of y m) (block_size * block) (placed w.dev.part held p)))
             else unit_out Ack (cut_short w.dev) (with_sense y data_phase) (part_of y m)

@@ -7,7 +7,7 @@ use native.Mathlib.Omega.{arith}
 use lib.Dec.{leb, ltb, eqb}
 use lib.ListN.{length, take, drop, set}
 use borrow.Author.Tests.{leb-true, leb-false, eqb-true, eqb-false}
-use Rattle.wire.specs.Choice.{if◌then◌else◌, ◌and◌}
+use Rattle.wire.specs.Choice.{when◌then◌else◌, ◌and◌}
 use Rattle.wire.specs.Slices.{placed}
 use Rattle.wire.proofs.Cases.{by-if, if-false, both}
 use Rattle.wire.proofs.Lists.{length-placed}
@@ -248,11 +248,11 @@ module _ (k : Making) (b : ℕ) (x : Source) (l : Log) (i : Identity) (s : State
 
     -- a wrapper, where no write is under way
     source-of : (h : Header) (y : Plan) → wrapper_of us q ≡ Good h y → l.tally ≡ idle → reads l (bulk_out q) Ack x ≡ read_of h y
-    unfolding reads is_ack if◌then◌else◌ source_after source_of
+    unfolding reads is_ack when◌then◌else◌ source_after source_of
     source-of h y e i = ap (λ (t : Tally). source_after t l.units q x) i ∙ ap source_of (same_wrapper k l w sim q ∙ e)
 
     wrappers : (v : Wrapper) → wrapper_of us q ≡ v → l.tally ≡ idle → p ≡ p' → Takes (on_wrapper v w) (on_wrapper v w')
-    unfolding on_wrapper locked_state with_halts begun begun_by moved reads is_ack if◌then◌else◌
+    unfolding on_wrapper locked_state with_halts begun begun_by moved reads is_ack when◌then◌else◌
     wrappers Broken e i f = even (bulk_out q) Stall _ us [] refl refl
     wrappers (Good h y) e i f =
         goes (bulk_out q) Ack _ _ p p' m m' [] (λ _. f) apart

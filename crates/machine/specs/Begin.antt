@@ -1,6 +1,6 @@
 -- An accepted wrapper (document 01, "Commands" and "The thirteen meetings of host and device").
 use Rattle.std.specs.Prelude.{◌*◌, Bool, true}
-use Rattle.wire.specs.Choice.{if◌then◌else◌}
+use Rattle.wire.specs.Choice.{when◌then◌else◌}
 use Rattle.scsi.specs.Sense.{no_sense}
 use Rattle.scsi.specs.declared.sense.Sense.{Sense}
 use Rattle.scsi.specs.declared.command.Plan.{Plan}
@@ -30,7 +30,7 @@ use Rattle.machine.specs.Record.{moved, task}
 
 -- What the host announces; the direction at length 0 is ignored by the cases themselves.
 unfoldable pub host_of : Header → Transfer
-host_of h = if h.inward then In h.announced else Out h.announced
+host_of h = when h.inward then In h.announced else Out h.announced
 
 -- What the device has. "A failed command has no data."
 unfoldable pub has_of : Plan → Transfer

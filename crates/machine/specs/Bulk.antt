@@ -1,6 +1,6 @@
 -- Bulk packets (document 01, "Wrappers" and "The thirteen meetings of host and device"), once their checks are passed.
 use Rattle.std.specs.Prelude.{ℕ, ◌+◌, ◌*◌, ◌-◌, min, Bool, true, List, [], leb, ltb, eqb, length, take, drop, set}
-use Rattle.wire.specs.Choice.{if◌then◌else◌}
+use Rattle.wire.specs.Choice.{when◌then◌else◌}
 use Rattle.wire.specs.Slices.{zeros, placed}
 use Rattle.scsi.specs.Reply.{reply_data}
 use Rattle.scsi.specs.Sense.{data_phase}
@@ -63,10 +63,10 @@ gathered d block left held p = device d.identity (gathered_state d.state block l
 
 -- After a whole block: the next one is due, or the status; the table's halt comes if some of the announced length is left.
 unfoldable pub next_out : ℕ → ℕ → Stage
-next_out block left = if leb left 1 then StatusDue Passed else DataOut (block + 1) (left - 1) 0
+next_out block left = when leb left 1 then StatusDue Passed else DataOut (block + 1) (left - 1) 0
 
 unfoldable pub halt_at_end : Bool → ℕ → Bool → Bool
-halt_at_end last residue before = if last then (if ltb 0 residue then true else before) else before
+halt_at_end last residue before = when last then (when ltb 0 residue then true else before) else before
 
 unfoldable pub stored_state : State → ℕ → ℕ → State
 stored_state s block left =
@@ -79,8 +79,8 @@ stored_block d block left = device d.identity (stored_state d.state block left) 
 -- Of one unit: m is its own part of the medium, and the block's number is the unit's own.
 unfoldable pub on_data : ℕ → ℕ → ℕ → List ℕ → Device → LogicalUnit → List ℕ → UnitOut
 on_data block left held p d u m =
-    if eqb (length p) packet_size
-    then (if ltb (held + packet_size) block_size
+    when eqb (length p) packet_size
+    then (when ltb (held + packet_size) block_size
     then unit_out Ack (gathered d block left held p) u m
     else unit_out Ack (stored_block d block left) u (placed m (block_size * block) (placed d.part held p)))
     else unit_out Ack (cut_short d) (with_sense u data_phase) m
@@ -89,20 +89,20 @@ on_data block left held p d u m =
 unfoldable pub out_stage : Stage → World → List ℕ → Out
 out_stage Ready w p = on_wrapper (wrapper_of w.units p) w
 out_stage (DataOut block left held) w p =
-    if eqb left 0 then out Nak w [] else in_unit w w.dev.state.link.task.lun (on_data block left held p)
+    when eqb left 0 then out Nak w [] else in_unit w w.dev.state.link.task.lun (on_data block left held p)
 out_stage (DataIn place left) w p = out Nak w []
 out_stage (ReplyIn reply place left) w p = out Nak w []
 out_stage (StatusDue status) w p = out Nak w []
 
 -- "Once the checks are passed, a halted pipe stalls, before any other rule."
 unfoldable pub packet_out : World → List ℕ → Out
-packet_out w p = if w.dev.state.link.haltout then out Stall w [] else out_stage w.dev.state.link.task.stage w p
+packet_out w p = when w.dev.state.link.haltout then out Stall w [] else out_stage w.dev.state.link.task.stage w p
 
 -- ---- bulk-in: what an ask comes to, and then the bytes
 
 -- The state once n bytes are handed out, of which these were the last or not; "Data-in packets hold min(64, what is left)".
 unfoldable pub next_in : ℕ → Stage → Stage
-next_in left more = if leb left packet_size then StatusDue Passed else more
+next_in left more = when leb left packet_size then StatusDue Passed else more
 
 unfoldable pub handed_state : State → ℕ → ℕ → Stage → State
 handed_state s n left more =
@@ -111,7 +111,7 @@ handed_state s n left more =
 
 -- The next packet of a source; none, where nothing is left of it.
 unfoldable pub next_packet : State → ℕ → Source → Stage → Asked
-next_packet s left x more = if eqb left 0 then Quiet Nak else Packet x (handed_state s (min packet_size left) left more)
+next_packet s left x more = when eqb left 0 then Quiet Nak else Packet x (handed_state s (min packet_size left) left more)
 
 -- "After status 0 or 1 a wrapper is due." "A handed-out phase error status, answered 0, locks it too."
 unfoldable pub after_status : Status → State → State
@@ -133,7 +133,7 @@ ask_stage (ReplyIn reply place left) s =
 ask_stage (StatusDue status) s = Packet (source.Status (csw_of s.link.task status)) (after_status status s)
 
 unfoldable pub ask : State → Asked
-ask s = if s.link.haltin then Quiet Stall else ask_stage s.link.task.stage s
+ask s = when s.link.haltin then Quiet Stall else ask_stage s.link.task.stage s
 
 -- The bytes where they stand: a unit's in its own part of the medium.
 unfoldable pub bytes_of : Source → World → List ℕ

@@ -1,6 +1,6 @@
 -- Bus reset and control requests (document 01, "Control requests"), once their checks are passed. Neither is lent a medium.
 use Rattle.std.specs.Prelude.{ℕ, ◌-◌, Bool, true, false, List, [], ◌∷◌, eqb, length, take}
-use Rattle.wire.specs.Choice.{if◌then◌else◌}
+use Rattle.wire.specs.Choice.{when◌then◌else◌}
 use Rattle.usb.specs.Descriptor.{descriptor_data}
 use Rattle.usb.specs.declared.request.Endpoint.{Endpoint}
 use Rattle.usb.specs.declared.request.Endpoint.TheVariants.{Control, BulkIn, BulkOut}
@@ -18,7 +18,7 @@ reset w = dropped w 0 false false false
 
 -- "C needs a configured device"; any other request stalls and changes nothing.
 unfoldable pub needs_configured : World → List ℕ → Out → Out
-needs_configured w b o = if w.dev.state.configured then o else out Stall w b
+needs_configured w b o = when w.dev.state.configured then o else out Stall w b
 
 -- a flag as the two bytes of a status (USB 2.0, 9.4.5)
 unfoldable pub flag : Bool → List ℕ
@@ -32,10 +32,10 @@ endpoint_status BulkOut w b = needs_configured w b (sends (flag w.dev.state.link
 
 -- "Clear Feature acks without clearing until a command drop": a locked device keeps both halts, whatever is asked.
 unfoldable pub halt_in : Bool → State → State
-halt_in on s = with_halts s (if s.link.locked then true else on) s.link.haltout s.link.locked
+halt_in on s = with_halts s (when s.link.locked then true else on) s.link.haltout s.link.locked
 
 unfoldable pub halt_out : Bool → State → State
-halt_out on s = with_halts s s.link.haltin (if s.link.locked then true else on) s.link.locked
+halt_out on s = with_halts s s.link.haltin (when s.link.locked then true else on) s.link.locked
 
 unfoldable pub clear_halt : Endpoint → World → List ℕ → Out
 clear_halt Control w b = out Ack w b
@@ -49,9 +49,9 @@ set_halt BulkOut w b = needs_configured w b (out Ack (in_state w (halt_out true 
 
 unfoldable pub perform : Request → World → List ℕ → Out
 perform (SetAddress a) w b =
-    if w.dev.state.configured then out Stall w b else out Ack (in_state w (with_address w.dev.state a)) b
+    when w.dev.state.configured then out Stall w b else out Ack (in_state w (with_address w.dev.state a)) b
 perform (SetConfiguration v) w b = out Ack (dropped w w.dev.state.address (eqb v 1) false false) b
-perform GetConfiguration w b = sends ((if w.dev.state.configured then 0x01 else 0x00) ∷ []) w b
+perform GetConfiguration w b = sends ((when w.dev.state.configured then 0x01 else 0x00) ∷ []) w b
 perform GetDeviceStatus w b = sends (flag true) w b
 perform GetInterfaceStatus w b = needs_configured w b (sends (flag false) w b)
 perform (GetEndpointStatus e) w b = endpoint_status e w b

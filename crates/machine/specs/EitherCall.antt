@@ -1,6 +1,6 @@
 -- The showing call beside the copying one (document 02, A11): what both leave, and lists of calls in which either is used. Proved in proofs/EitherCall.antt.
 use Rattle.std.specs.Prelude.{ℕ, ◌≡◌, Bool, true, false, not, ◌||◌, List, [], ◌∷◌, length}
-use Rattle.wire.specs.Choice.{if◌then◌else◌, ◌and◌}
+use Rattle.wire.specs.Choice.{when◌then◌else◌, ◌and◌}
 use Rattle.wire.specs.Slices.{zeros, placed, same}
 use Rattle.machine.specs.declared.answer.Answer.TheVariants.{Nak, Refused}
 use Rattle.machine.specs.declared.answer.Refusal.TheVariants as refusal
@@ -79,12 +79,12 @@ run_calls w [] = record { replies = []; world = w }
 run_calls w (c ∷ cs) =
     let o : Out = step_call w c in
     let r : Run = run_calls o.world cs in
-    record { replies = if is_idle w c then r.replies else seen o ∷ r.replies; world = r.world }
+    record { replies = when is_idle w c then r.replies else seen o ∷ r.replies; world = r.world }
 
 -- The events that it comes to.
 unfoldable pub events_of : World → List Call → List Event
 events_of w [] = []
-events_of w (c ∷ cs) = let es = events_of (step_call w c).world cs in if is_idle w c then es else asked c ∷ es
+events_of w (c ∷ cs) = let es = events_of (step_call w c).world cs in when is_idle w c then es else asked c ∷ es
 
 -- Either call: the run is that of those events, so that all that is claimed of every list of events is claimed of every list of calls: demand 3, the ledger, isolation.
 pub record EitherCall : Type 0 where

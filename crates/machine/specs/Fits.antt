@@ -1,6 +1,6 @@
 -- Number 10: when a record and its table fit together (document 01, "Numbers that come back"; document 02, A4 and A7). The part block is free.
 use Rattle.std.specs.Prelude.{ℕ, ◌+◌, ◌*◌, ◌%◌, Bool, true, false, not, leb, ltb, eqb}
-use Rattle.wire.specs.Choice.{if◌then◌else◌, ◌and◌}
+use Rattle.wire.specs.Choice.{when◌then◌else◌, ◌and◌}
 use Rattle.scsi.specs.Sense.{is_no_sense}
 use Rattle.scsi.specs.Reply.{kind_of, reply_size}
 use Rattle.usb.specs.declared.descriptor.Identity.{Identity}
@@ -28,7 +28,7 @@ is_ready (StatusDue status) = false
 -- "unconfigured means ready, unhalted, unlocked, sense zero": every unit's
 unfoldable pub idle_fits : State → Table → Bool
 idle_fits s us =
-    if s.configured
+    when s.configured
     then true
     else is_ready s.link.task.stage
     and not s.link.haltin
@@ -38,7 +38,7 @@ idle_fits s us =
 
 -- "locked means both pipes halted"
 unfoldable pub lock_fits : Link → Bool
-lock_fits l = if l.locked then l.haltin and l.haltout else true
+lock_fits l = when l.locked then l.haltin and l.haltout else true
 
 -- "a running transfer's blocks lie in the unit, or its reply bytes in the reply; its part block is a multiple of 64 below 512; its bytes still due,
 -- a part block's included, are at most its residue, and that, with a status due too, at most the announced length". That a reply's size is how many bytes it

@@ -1,6 +1,6 @@
 -- The units keep apart (document 02, A7): what a step may write, and what one unit's data can show to the others. Proved in proofs/Kept.antt and proofs/Isolation.antt.
 use Rattle.std.specs.Prelude.{ℕ, ◌≡◌, Bool, true, false, List, [], ◌∷◌, eqb, length}
-use Rattle.wire.specs.Choice.{if◌then◌else◌, ◌and◌}
+use Rattle.wire.specs.Choice.{when◌then◌else◌, ◌and◌}
 use Rattle.scsi.specs.declared.command.Plan.{Plan}
 use Rattle.scsi.specs.declared.command.Plan.TheVariants.{Failed, Nothing, Reply, Read, Write}
 use Rattle.bot.specs.declared.cbw.Header.{Header}
@@ -91,7 +91,7 @@ source_after (writing n block left held) us p x = x
 unfoldable pub reads : Log → Event → Answer → Source → Source
 reads l bus_reset a x = x
 reads l (control s c) a x = x
-reads l (bulk_out p) a x = if is_ack a then source_after l.tally l.units p x else x
+reads l (bulk_out p) a x = when is_ack a then source_after l.tally l.units p x else x
 reads l (bulk_in c) a x = x
 reads l (set_switch y n) a x = x
 

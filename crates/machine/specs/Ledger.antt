@@ -1,7 +1,7 @@
 -- The ledger (document 02, A13): the status wrappers that were handed out, held to the command wrappers and to the bytes that moved. Proved in proofs/Ledger.antt.
 -- The accountant is an observer, as the tally is: it is fed the making, the events, and their answers with the bytes handed out. It knows no record.
 use Rattle.std.specs.Prelude.{ℕ, ◌+◌, ◌*◌, ◌-◌, ◌≡◌, List, [], ◌∷◌, map, length}
-use Rattle.wire.specs.Choice.{if◌then◌else◌}
+use Rattle.wire.specs.Choice.{when◌then◌else◌}
 use Rattle.wire.specs.Numbers.{little}
 use Rattle.wire.specs.Slices.{Below, byte_at, bytes_at}
 use Rattle.bot.specs.Cbw.{header_of}
@@ -61,14 +61,14 @@ took_packet (writing lun block left held) p n b = counting n b.commands b.status
 -- What an ask hands out is a status wrapper or "data-in bytes", which may be none.
 unfoldable pub gave_packet : List ℕ → Book → Book
 gave_packet s b =
-    if is_status s
+    when is_status s
     then book b.commands (status_of s ∷ b.statuses) b.stray
     else counting (length s) b.commands b.statuses b.stray
 
 unfoldable pub entered : Log → Event → Handed → Book → Book
 entered l bus_reset h b = b
 entered l (control s c) h b = b
-entered l (bulk_out p) h b = if is_ack h.answer then took_packet l.tally p (arrived_with l (bulk_out p) h.answer) b else b
+entered l (bulk_out p) h b = when is_ack h.answer then took_packet l.tally p (arrived_with l (bulk_out p) h.answer) b else b
 entered l (bulk_in c) h b = gave_packet h.bytes b
 entered l (set_switch x n) h b = b
 
@@ -80,7 +80,7 @@ pub record Account : Type 0 where
 unfoldable pub booked : Account → Event → Handed → Account
 booked a e h = record {
   log = noted a.log e h.answer;
-  book = if ends e h.answer then book [] [] 0 else entered a.log e h a.book;
+  book = when ends e h.answer then book [] [] 0 else entered a.log e h a.book;
 }
 
 abbrev pub opened : Making → Account

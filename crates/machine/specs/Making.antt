@@ -1,6 +1,6 @@
 -- Making a collector over a lent table and medium (document 01, numbers 11 and 15; document 02, A7, number 10).
 use Rattle.std.specs.Prelude.{ℕ, List}
-use Rattle.wire.specs.Choice.{if◌then◌else◌}
+use Rattle.wire.specs.Choice.{when◌then◌else◌}
 use Rattle.usb.specs.declared.descriptor.Identity.{Identity}
 use Rattle.machine.specs.declared.record.Device.{Device}
 use Rattle.machine.specs.declared.answer.Answer.{Answer}
@@ -28,9 +28,9 @@ not_made r us = made (Refused r) no_device us
 -- nothing is asked.
 unfoldable pub make : Identity → Table → List ℕ → Made
 make i us m =
-    if laid_out us
-    then (if medium_fits us m
-    then (if number_fits i.number then made Ack (fresh i) (as_made us) else not_made refusal.Number us)
+    when laid_out us
+    then (when medium_fits us m
+    then (when number_fits i.number then made Ack (fresh i) (as_made us) else not_made refusal.Number us)
     else not_made refusal.Medium us)
     else not_made refusal.Record us
 

@@ -1,6 +1,6 @@
 -- Which block was refused (document 02, A8). Proved in proofs/RefusedBlock.antt.
 use Rattle.std.specs.Prelude.{ℕ, ◌≡◌, Bool, true, List, [], ◌∷◌, ◌++◌, eqb, leb}
-use Rattle.wire.specs.Choice.{if◌then◌else◌}
+use Rattle.wire.specs.Choice.{when◌then◌else◌}
 use Rattle.wire.specs.Slices.{zeros}
 use Rattle.scsi.specs.Sense.{is_out_of_range}
 use Rattle.scsi.specs.declared.sense.Sense.{Sense}
@@ -26,7 +26,7 @@ SenseLeft = (w : World) (p : List ℕ) (s : Sense) → Accepts w p (Failed s) �
 
 -- A range failure carries a block outside the unit; another sense carries none.
 unfoldable pub carries : ℕ → Sense → Bool
-carries blocks s = if is_out_of_range s then leb blocks s.information else eqb s.information 0
+carries blocks s = when is_out_of_range s then leb blocks s.information else eqb s.information 0
 
 -- Of every sense that a collector comes to hold: each unit's, and the one that a Request Sense under way has found.
 pub record Carries (w : World) : Type 0 where

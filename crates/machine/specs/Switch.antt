@@ -1,6 +1,6 @@
 -- The write switches (document 02, A4 and A7): the event that sets it, all others, and when a change counts. Proved in proofs/Switch.antt.
 use Rattle.std.specs.Prelude.{ℕ, ◌≡◌, Bool, true, false, List, [], ◌∷◌, ◌++◌}
-use Rattle.wire.specs.Choice.{if◌then◌else◌, ◌and◌}
+use Rattle.wire.specs.Choice.{when◌then◌else◌, ◌and◌}
 use Rattle.wire.specs.Slices.{zeros}
 use Rattle.machine.specs.declared.answer.Answer.TheVariants.{Ack, Refused}
 use Rattle.machine.specs.declared.answer.Refusal.TheVariants as refusal
@@ -29,7 +29,7 @@ pub record SwitchLaws : Type 0 where
   -- "a fifth event sets it to either and acks", whatever the collector is at; "all else .. being number 10"; "beyond the table: 18, checked last" (A7)
   pub sets : (w : World) (x n : ℕ)
       → step w (set_switch x n)
-      ≡ (if fitting w and switch_fits x then (if in_table n w.units then out Ack (switched w x n) [] else out (Refused refusal.Unit) w []) else out (Refused refusal.Record) w [])
+      ≡ (when fitting w and switch_fits x then (when in_table n w.units then out Ack (switched w x n) [] else out (Refused refusal.Unit) w []) else out (Refused refusal.Record) w [])
   -- "No reset of any kind moves the switch.": no other event does.
   pub kept : (w : World) (e : Event) → is_switch e ≡ false → (n : ℕ) → (unit_at (step w e).world.units n).switch ≡ (unit_at w.units n).switch
   -- "A change during a command counts from the next wrapper.": with a command in hand, its status included, each event is answered as without the change.

@@ -1,7 +1,7 @@
 -- What a history says (document 01, "Words of demand 3"; document 02, A4 and A7): the tally of arrived blocks, and address, configuration and switches as last set.
 -- An observer that is fed the making, the events and the answers, and nothing else.
 use Rattle.std.specs.Prelude.{ℕ, ◌+◌, ◌*◌, ◌-◌, Bool, true, false, not, List, [], ◌∷◌, ◌++◌, leb, ltb, eqb, length}
-use Rattle.wire.specs.Choice.{if◌then◌else◌, ◌and◌}
+use Rattle.wire.specs.Choice.{when◌then◌else◌, ◌and◌}
 use Rattle.wire.specs.Slices.{placed}
 use Rattle.scsi.specs.declared.command.Plan.{Plan}
 use Rattle.scsi.specs.declared.command.Plan.TheVariants.{Failed, Nothing, Reply, Read, Write}
@@ -61,7 +61,7 @@ write_of h Nothing = idle
 write_of h (Reply k n) = idle
 write_of h (Read block count) = idle
 write_of h (Write block count) =
-    if ltb 0 count and not h.inward and leb (block_size * count) h.announced then writing h.lun block count [] else idle
+    when ltb 0 count and not h.inward and leb (block_size * count) h.announced then writing h.lun block count [] else idle
 
 unfoldable pub beginning : Wrapper → Tally
 beginning Broken = idle
@@ -69,7 +69,7 @@ beginning (Good h p) = write_of h p
 
 -- "with the last counted it ends"
 unfoldable pub following : ℕ → ℕ → ℕ → Tally
-following n block left = if leb left 1 then idle else writing n (block + 1) (left - 1) []
+following n block left = when leb left 1 then idle else writing n (block + 1) (left - 1) []
 
 abbrev pub turned : Log → Tally → List Block → Log
 turned l t bs = log t l.address l.configured l.units (l.arrived ++ bs)
@@ -78,8 +78,8 @@ turned l t bs = log t l.address l.configured l.units (l.arrived ++ bs)
 unfoldable pub taken : Tally → List ℕ → Log → Log
 taken idle p l = turned l (beginning (wrapper_of l.units p)) []
 taken (writing n block left held) p l =
-    if eqb (length p) packet_size
-    then (if eqb (length (held ++ p)) block_size
+    when eqb (length p) packet_size
+    then (when eqb (length (held ++ p)) block_size
     then turned l (following n block left) (record { lun = n; number = block; bytes = held ++ p } ∷ [])
     else turned l (writing n block left (held ++ p)) [])
     else turned l idle []
@@ -117,7 +117,7 @@ is_ack (Refused r) = false
 
 -- "All else, refusals included, does nothing."
 unfoldable pub noted : Log → Event → Answer → Log
-noted l e a = if is_ack a then heeded l e else l
+noted l e a = when is_ack a then heeded l e else l
 
 -- An observer over a list of events and what it is told of each: its answer, or that and more.
 unfoldable pub observed : {L A : Type 0} → (L → Event → A → L) → L → List Event → List A → L

@@ -1,6 +1,6 @@
 -- Which packet is accepted where a wrapper is due (document 01, "Wrappers").
 use Rattle.std.specs.Prelude.{ℕ, Bool, List, leb, ltb, length, drop}
-use Rattle.wire.specs.Choice.{if◌then◌else◌, ◌and◌}
+use Rattle.wire.specs.Choice.{when◌then◌else◌, ◌and◌}
 use Rattle.wire.specs.Slices.{byte_at}
 use Rattle.scsi.specs.Command.{block_length, plan_of}
 use Rattle.scsi.specs.declared.command.Plan.{Plan}
@@ -25,6 +25,6 @@ plan_for u b = plan_of b u.blocks (is_protected u)
 -- The command block is read where it stands, from byte 15 on, for the unit that the wrapper names.
 unfoldable pub wrapper_of : Table → List ℕ → Wrapper
 wrapper_of us p =
-    if accepted (length us) p
+    when accepted (length us) p
     then Good (header_of p) (plan_for (unit_at us (header_of p).lun) (drop 15 p))
     else Broken

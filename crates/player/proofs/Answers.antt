@@ -8,7 +8,7 @@ use lib.Dec.{leb, eqb}
 use lib.ListN.{length, take, length-append}
 use lib.Seq.{take_all, length-take-le}
 use borrow.Author.Tests.{leb-true, leb-false}
-use Rattle.wire.specs.Choice.{if◌then◌else◌}
+use Rattle.wire.specs.Choice.{when◌then◌else◌}
 use Rattle.wire.specs.Texts.{ascii}
 use Rattle.wire.proofs.Cases.{both, by-if}
 use Rattle.machine.specs.declared.answer.Answer.{Answer}
@@ -39,15 +39,15 @@ use Rattle.printout.proofs.Writes.{wrote_as, numeral-length, answer-length}
 
 abbrev by_number : ℕ → ℕ → List ℕ → List ℕ
 by_number k n b =
-    if eqb k 0 then data_text n b
-    else (if eqb k 1 then ascii "ack"
-    else (if eqb k 2 then ascii "nak"
-    else (if eqb k 3 then ascii "stall"
-    else (if eqb k 4 then ascii "silent"
+    when eqb k 0 then data_text n b
+    else (when eqb k 1 then ascii "ack"
+    else (when eqb k 2 then ascii "nak"
+    else (when eqb k 3 then ascii "stall"
+    else (when eqb k 4 then ascii "silent"
     else refused_text k))))
 
 by_number_lem : (a : Answer) (b : List ℕ) → answer_text a b ≡ by_number (number_of a) (count_of a) b
-unfolding answer_text if◌then◌else◌
+unfolding answer_text when◌then◌else◌
 by_number_lem (Data n) b = refl
 by_number_lem Ack b = refl
 by_number_lem Nak b = refl

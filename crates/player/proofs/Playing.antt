@@ -9,7 +9,7 @@ use lib.Dec.{eqb}
 use lib.ListN.{length, take, drop, length-append, length-map}
 use Rattle.scsi.specs.Sense.{no_sense}
 use Rattle.wire.specs.Texts.{ascii}
-use Rattle.wire.specs.Choice.{if◌then◌else◌, ◌and◌}
+use Rattle.wire.specs.Choice.{when◌then◌else◌, ◌and◌}
 use Rattle.wire.proofs.Cases.{both, if-true, if-false, by-if}
 use Rattle.wire.proofs.Lists.{placed_yes}
 use Rattle.wire.proofs.Packets.{length-zeros}
@@ -214,8 +214,8 @@ pub bench_table_lem : (h : Units) (x : LogicalUnit) → h ≡ held_of (x ∷ [])
 bench_table_lem h x e f = ap heldTable e ∙ held (x ∷ []) (omega arith) ∙ ap (λ (y : LogicalUnit). y ∷ []) f
 
 pub bench_served : eqb (making_number bench_table bench_medium) 1 ≡ true
-unfolding bench_medium making_number make laid_out follow size_fits medium_fits total number_fits if◌then◌else◌ ◌and◌
-bench_served = ap (λ (n : ℕ). eqb (number_of (if eqb n 32768 then made Ack (fresh bench_identity) (as_made bench_table) else not_made refusal.Medium bench_table).answer) 1) (length-zeros 32768)
+unfolding bench_medium making_number make laid_out follow size_fits medium_fits total number_fits when◌then◌else◌ ◌and◌
+bench_served = ap (λ (n : ℕ). eqb (number_of (when eqb n 32768 then made Ack (fresh bench_identity) (as_made bench_table) else not_made refusal.Medium bench_table).answer) 1) (length-zeros 32768)
 
 -- the print-out lies within the text's buffer
 pub within_text : (us : Table) (start s t m t' : List ℕ) (r : ℕ) (m' : List ℕ) → Leaves us start s t m t' r m' → r ≤ length t'

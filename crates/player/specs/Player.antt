@@ -1,6 +1,6 @@
 -- A recording played (document 01, "The bench recording"): the machine's run over its events, and what is printed of it.
 use Rattle.std.specs.Prelude.{ℕ, ◌+◌, ◌*◌, ◌≡◌, List, [], ◌∷◌, ◌++◌, eqb, length, drop}
-use Rattle.wire.specs.Choice.{if◌then◌else◌}
+use Rattle.wire.specs.Choice.{when◌then◌else◌}
 use Rattle.wire.specs.Slices.{zeros}
 use Rattle.scsi.specs.Sense.{no_sense}
 use Rattle.usb.specs.declared.descriptor.Identity.{Identity}
@@ -33,13 +33,13 @@ run_in units s n w = run w (events_in units n (drop 2 s) (drop (2 + 4 * n) s))
 unfoldable pub text_of : Table → List ℕ → Parsed → List ℕ
 text_of us start malformed = refused_line 16
 text_of us start (well_formed es) =
-    if eqb (making_number us start) 1
+    when eqb (making_number us start) 1
     then heading (length es) ++ lines 1 (played us start es).replies
     else refused_line (making_number us start)
 
 unfoldable pub medium_of : Table → List ℕ → Parsed → List ℕ → List ℕ
 medium_of us start malformed m = m
-medium_of us start (well_formed es) m = if eqb (making_number us start) 1 then (played us start es).world.medium else m
+medium_of us start (well_formed es) m = when eqb (making_number us start) 1 then (played us start es).world.medium else m
 
 unfoldable pub printed_over : Table → List ℕ → List ℕ → List ℕ
 printed_over us start s = text_of us start (parse (length us) s)

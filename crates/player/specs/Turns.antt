@@ -1,6 +1,6 @@
 -- What one event of a recording leaves, printed: what the inner functions' contracts cite.
 use Rattle.std.specs.Prelude.{ℕ, ◌+◌, ◌≤◌, ◌≡◌, List, leb, length, take}
-use Rattle.wire.specs.Choice.{if◌then◌else◌}
+use Rattle.wire.specs.Choice.{when◌then◌else◌}
 use Rattle.machine.specs.declared.record.Device.{Device}
 use Rattle.machine.specs.Record.{with_state}
 use Rattle.machine.specs.Units.{Table}
@@ -18,7 +18,7 @@ use Rattle.printout.specs.Print.{line}
 
 -- The table that a change leaves of one by value, where it is held whole.
 abbrev pub changed : Change → Units → Table
-changed c h = if leb h.count 4 then applied c (table_of h) else table_of h
+changed c h = when leb h.count 4 then applied c (table_of h) else table_of h
 
 -- What an event's function gave, put together with the buffer that it was lent.
 pub record Ended (d : Device) (h : Units) (v : Moved) (b : List ℕ) (n : ℕ) (r : EventResult) : Type 0 where

@@ -1,6 +1,6 @@
 -- What the bench prints (document 01, "The bench recording"), as bytes.
 use Rattle.std.specs.Prelude.{ℕ, ◌+◌, ◌/◌, ◌%◌, Bool, List, [], ◌∷◌, ◌++◌, ltb, leb, length, take}
-use Rattle.wire.specs.Choice.{if◌then◌else◌}
+use Rattle.wire.specs.Choice.{when◌then◌else◌}
 use Rattle.wire.specs.Numbers.{decimal}
 use Rattle.wire.specs.Texts.{ascii}
 use Rattle.machine.specs.declared.answer.Answer.{Answer}
@@ -10,14 +10,14 @@ use Rattle.machine.specs.Machine.{Seen}
 
 -- Numbers below 10,000, without zeros in front.
 unfoldable pub width_of : ℕ → ℕ
-width_of n = if ltb n 10 then 1 else (if ltb n 100 then 2 else (if ltb n 1000 then 3 else 4))
+width_of n = when ltb n 10 then 1 else (when ltb n 100 then 2 else (when ltb n 1000 then 3 else 4))
 
 unfoldable pub numeral : ℕ → List ℕ
 numeral n = decimal (width_of n) n
 
 -- "data is upper-case hex, a space between bytes": 0 to 9, then A to F.
 abbrev pub hex_digit : ℕ → ℕ
-hex_digit d = if ltb d 10 then 48 + d else 55 + d
+hex_digit d = when ltb d 10 then 48 + d else 55 + d
 
 unfoldable pub hexes : List ℕ → List ℕ
 hexes [] = []
@@ -68,4 +68,4 @@ unfoldable pub has_room : List ℕ → ℕ → Bool
 has_room t at = leb (at + most_line) (length t)
 
 unfoldable pub fitting : Bool → List ℕ → List ℕ
-fitting fits s = if fits then s else []
+fitting fits s = when fits then s else []

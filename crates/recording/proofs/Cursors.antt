@@ -9,7 +9,7 @@ use lib.Dec.{leb, eqb}
 use lib.ListN.{length, take, drop, get_or, length-drop}
 use lib.Seq.{get_or-drop, drop-drop}
 use borrow.Author.Tests.{le-leb, lt-leb, leb-true, leb-false, eq-eqb, ne_eqb, eqb-true, eqb-false}
-use Rattle.wire.specs.Choice.{if◌then◌else◌, ◌and◌}
+use Rattle.wire.specs.Choice.{when◌then◌else◌, ◌and◌}
 use Rattle.wire.specs.Slices.{byte_at, bytes_at}
 use Rattle.wire.specs.Numbers.{little}
 use Rattle.wire.proofs.Cases.{if-true, if-false, by-if, both, and_true, and_false}
@@ -65,10 +65,10 @@ found u s e b k l n p q x y z w v h i =
 
 abbrev kind_from : ℕ → Kind
 kind_from n =
-    if eqb n 1 then Reset else (if eqb n 2 then Control else (if eqb n 3 then Out else (if eqb n 4 then Ask else (if eqb n 5 then Switch else Malformed))))
+    when eqb n 1 then Reset else (when eqb n 2 then Control else (when eqb n 3 then Out else (when eqb n 4 then Ask else (when eqb n 5 then Switch else Malformed))))
 
 kind_back : (k : Kind) → kind_from (kind_number k) ≡ k
-unfolding if◌then◌else◌
+unfolding when◌then◌else◌
 kind_back Reset = refl
 kind_back Control = refl
 kind_back Out = refl

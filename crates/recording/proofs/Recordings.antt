@@ -8,7 +8,7 @@ use lib.Dec.{leb}
 use lib.ListN.{length, take, drop, length-append}
 use lib.Seq.{take-append_seam, drop-append_seam, drop_at, drop-drop}
 use borrow.Author.Tests.{le-leb, lt-ltb}
-use Rattle.wire.specs.Choice.{if◌then◌else◌, ◌and◌}
+use Rattle.wire.specs.Choice.{when◌then◌else◌, ◌and◌}
 use Rattle.wire.specs.Slices.{byte_at, bytes_at}
 use Rattle.wire.specs.Numbers.{low, value, little, little_bytes}
 use Rattle.wire.proofs.Cases.{if-true, and_true}
@@ -35,7 +35,7 @@ kind_for (set_switch x n) = Switch
 
 -- its body stands in front of the others
 kind_is : (u : ℕ) (e : Event) (y : List ℕ) → Recordable u e → kind_of (number_of_kind e) 0 (length (body_of e)) (byte_at (body_of e ++ y) 0) (byte_at (body_of e ++ y) 1) u ≡ kind_for e
-unfolding kind_of if◌then◌else◌ ◌and◌
+unfolding kind_of when◌then◌else◌ ◌and◌
 kind_is u bus_reset y h = refl
 kind_is u (control s b) y h = ap (λ (n : ℕ). kind_of 2 0 n (byte_at (s ++ y) 0) (byte_at (s ++ y) 1) u) h.0
 kind_is u (bulk_out p) y h = simp (le-leb (length p) 64 h)

@@ -1,6 +1,6 @@
 -- What a reader finds at a place of a recording for so many units.
 use Rattle.std.specs.Prelude.{ℕ, ◌+◌, List, leb, length, drop}
-use Rattle.wire.specs.Choice.{if◌then◌else◌, ◌and◌}
+use Rattle.wire.specs.Choice.{when◌then◌else◌, ◌and◌}
 use Rattle.recording.specs.declared.cursor.Kind.{Kind}
 use Rattle.recording.specs.declared.cursor.Kind.TheVariants.{Reset, Control, Out, Ask, Switch, Malformed}
 use Rattle.recording.specs.declared.cursor.Reading.{Reading}
@@ -12,7 +12,7 @@ reading k n e b = record { kind = k; len = n; entry = e; body = b }
 -- The event whose entry stands at e and whose body starts at b, where both lie in the recording.
 unfoldable pub read_at : ℕ → List ℕ → ℕ → ℕ → Reading
 read_at units s e b =
-    if leb (e + 4) (length s) and leb (b + length_in (drop e s)) (length s)
+    when leb (e + 4) (length s) and leb (b + length_in (drop e s)) (length s)
     then reading (kind_in units (drop e s) (drop b s)) (length_in (drop e s)) (e + 4) (b + length_in (drop e s))
     else reading Malformed 0 e b
 

@@ -1,6 +1,6 @@
 -- A recording's format (document 01, "The bench recording"; document 02, A4 and A7), for a collector of so many units.
 use Rattle.std.specs.Prelude.{ℕ, zero, suc, ◌+◌, ◌*◌, ◌≤◌, ◌<◌, ◌≡◌, Bool, true, false, List, [], ◌∷◌, ◌++◌, leb, ltb, eqb, length, take, drop}
-use Rattle.wire.specs.Choice.{if◌then◌else◌, ◌and◌}
+use Rattle.wire.specs.Choice.{when◌then◌else◌, ◌and◌}
 use Rattle.wire.specs.Slices.{byte_at, bytes_at, zeros}
 use Rattle.wire.specs.Numbers.{little, little_bytes}
 use Rattle.machine.specs.Units.{switch_fits}
@@ -22,12 +22,12 @@ most_events = 1024
 -- bench 16)" (A7): the position and the unit are the body's first two bytes, the last number says how many units there are.
 unfoldable pub kind_of : ℕ → ℕ → ℕ → ℕ → ℕ → ℕ → Kind
 kind_of first second n position unit units =
-    if eqb second 0
-    then (if eqb first 1 then (if eqb n 0 then Reset else Malformed)
-    else (if eqb first 2 then (if eqb n 8 then Control else Malformed)
-    else (if eqb first 3 then (if leb n 64 then Out else Malformed)
-    else (if eqb first 4 then (if eqb n 0 then Ask else Malformed)
-    else (if eqb first 5 then (if eqb n 2 and switch_fits position and ltb unit units then Switch else Malformed)
+    when eqb second 0
+    then (when eqb first 1 then (when eqb n 0 then Reset else Malformed)
+    else (when eqb first 2 then (when eqb n 8 then Control else Malformed)
+    else (when eqb first 3 then (when leb n 64 then Out else Malformed)
+    else (when eqb first 4 then (when eqb n 0 then Ask else Malformed)
+    else (when eqb first 5 then (when eqb n 2 and switch_fits position and ltb unit units then Switch else Malformed)
     else Malformed)))))
     else Malformed
 
@@ -96,7 +96,7 @@ pub data Parsed : Type 0 where
   well_formed : List Event → Parsed
 
 unfoldable pub parse : ℕ → List ℕ → Parsed
-parse units s = if is_formed units s then well_formed (events_in units (count_of s) (table_of s) (bodies_of s)) else malformed
+parse units s = when is_formed units s then well_formed (events_in units (count_of s) (table_of s) (bodies_of s)) else malformed
 
 -- ---- writing
 

@@ -3,7 +3,7 @@ use Prim.Native.Nat.{ℕ, ◌+◌}
 use mathlib.Core.Path.{◌≡◌, refl, ap, sym, ◌∙◌}
 use mathlib.Core.List.{List, ◌++◌}
 use lib.ListN.{length, take, drop}
-use Rattle.wire.specs.Choice.{if◌then◌else◌, look}
+use Rattle.wire.specs.Choice.{when◌then◌else◌, look}
 use Rattle.wire.specs.Numbers.{low, decimal}
 use Rattle.wire.specs.Slices.{placed}
 use Rattle.wire.specs.Texts.{padded}
@@ -42,7 +42,7 @@ serials =
 -- ---- a page and its code
 
 pub code-found : (p : Page) → page_of (page_code p) ≡ Found p
-unfolding page_of pages look if◌then◌else◌
+unfolding page_of pages look when◌then◌else◌
 code-found page.Supported = refl
 code-found page.Serial = refl
 code-found page.Identification = refl

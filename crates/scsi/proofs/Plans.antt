@@ -6,7 +6,7 @@ use mathlib.Core.Bool.{Bool, true, false}
 use mathlib.Core.List.{List, [], ◌∷◌}
 use native.Mathlib.Omega.{arith}
 use borrow.Author.Tests.{leb-true, le-leb, lt-leb}
-use Rattle.wire.specs.Choice.{if◌then◌else◌, ◌and◌, look}
+use Rattle.wire.specs.Choice.{when◌then◌else◌, ◌and◌, look}
 use Rattle.wire.specs.Bits.{bits, clear}
 use Rattle.wire.specs.Numbers.{big}
 use Rattle.wire.specs.Slices.{byte_at, bytes_at, zeros}
@@ -98,7 +98,7 @@ plan-fits b blocks p =
 
 -- `plan_of` of a given command
 abbrev checked : Command → ℕ → Bool → List ℕ → Plan
-checked c n p b = if c.control b then plan_by c n p b else Failed invalid_field
+checked c n p b = when c.control b then plan_by c n p b else Failed invalid_field
 
 abbrev Fronted : Command → Type 0
 Fronted c = (n : ℕ) (p : Bool) (b : List ℕ) → checked c n p b ≡ checked c n p (bytes_at 10 0 b)
@@ -131,7 +131,7 @@ test-has-nothing blocks p = refl
 -- ---- Inquiry with EVPD set
 
 asked : (code hi lo blocks : ℕ) (protected : Bool) → plan_of (0x12 ∷ 0x01 ∷ code ∷ hi ∷ lo ∷ 0x00 ∷ []) blocks protected ≡ paged (page_of code) (big (hi ∷ lo ∷ []))
-unfolding plan_of control_clear plan_by command_of commands look inquired bytes_at clear bits if◌then◌else◌
+unfolding plan_of control_clear plan_by command_of commands look inquired bytes_at clear bits when◌then◌else◌
 asked code hi lo blocks protected = refl
 
 pub pages-served : PagesServed
@@ -161,7 +161,7 @@ unfolding within
 outside b blocks p h = if-false _ _ _ (lt-leb _ _ h)
 
 pub ranges_refused : RangesRefused
-unfolding command_of commands look if◌then◌else◌
+unfolding command_of commands look when◌then◌else◌
 ranges_refused = record {
   read = λ b blocks p e c f h. passed 0x28 b blocks p e c f ∙ outside b blocks _ h;
   write = λ b blocks p e c f h. passed 0x2A b blocks p e c f ∙ outside b blocks _ h;
@@ -190,8 +190,8 @@ not-write code h =
     (λ n b. refl)
 
 pub writes_protected : WritesProtected
-unfolding plan_of command_of commands look unless_protected if◌then◌else◌
+unfolding plan_of command_of commands look unless_protected when◌then◌else◌
 writes_protected = record {
   fails = λ b blocks e c f h. passed 0x2A b blocks true e c f ∙ inside b blocks _ h;
-  others = λ b blocks h. ap (λ (p : Plan). if control_clear b then p else Failed invalid_field) (not-write (byte_at b 0) h blocks b);
+  others = λ b blocks h. ap (λ (p : Plan). when control_clear b then p else Failed invalid_field) (not-write (byte_at b 0) h blocks b);
 }

@@ -4,7 +4,7 @@ use mathlib.Core.Path.{◌≡◌, refl}
 use mathlib.Core.List.{List}
 use native.Mathlib.Omega.{arith}
 use lib.ListN.{length}
-use Rattle.wire.specs.Choice.{if◌then◌else◌, ◌and◌}
+use Rattle.wire.specs.Choice.{when◌then◌else◌, ◌and◌}
 use Rattle.wire.specs.Numbers.{low}
 use Rattle.wire.specs.Slices.{byte_at, zeros}
 use Rattle.wire.specs.Texts.{padded}
@@ -28,7 +28,7 @@ unfolding sense_data
 by_format P s h = by-if P (is_out_of_range s) _ _ (λ _. h 0xF0 s.information (omega arith)) (λ _. h 0x70 0 (omega arith))
 
 pub sense-bytes : SenseBytes
-unfolding sense_data fixed_format is_out_of_range if◌then◌else◌ ◌and◌ zeros low
+unfolding sense_data fixed_format is_out_of_range when◌then◌else◌ ◌and◌ zeros low
 sense-bytes = record { range = λ block. refl; other = λ s e. if-false (is_out_of_range s) _ _ e }
 
 -- ---- every reply

@@ -1,6 +1,6 @@
 -- What the device has for a command (document 01, "Commands"; document 02, A1, A2, A4, A8 and A12): one row for each operation code.
 use Rattle.std.specs.Prelude.{ℕ, ◌+◌, ◌-◌, min, max, Bool, true, List, [], ◌∷◌, eqb, leb}
-use Rattle.wire.specs.Choice.{if◌then◌else◌, ◌and◌, Row, row, look}
+use Rattle.wire.specs.Choice.{when◌then◌else◌, ◌and◌, Row, row, look}
 use Rattle.wire.specs.Slices.{byte_at, bytes_at}
 use Rattle.wire.specs.Numbers.{big}
 use Rattle.wire.specs.Bits.{clear}
@@ -47,8 +47,8 @@ paged (Found p) allocated = cut (kind.Page p) allocated
 -- "With byte 1 bit 0 set", EVPD, the page of byte 2; with it clear the standard data, byte 2 being 0 (SPC-3, 6.4.1).
 unfoldable pub inquired : List ℕ → Plan
 inquired b =
-    if clear 0 0 (byte_at b 1)
-    then (if eqb (byte_at b 2) 0 then cut kind.Inquiry (inquiry_allocation b) else Failed invalid_field)
+    when clear 0 0 (byte_at b 1)
+    then (when eqb (byte_at b 2) 0 then cut kind.Inquiry (inquiry_allocation b) else Failed invalid_field)
     else paged (page_of (byte_at b 2)) (inquiry_allocation b)
 
 -- "Block address in bytes 2 to 5, count in 7 to 8, big endian"
@@ -64,18 +64,18 @@ first_outside a blocks = max a blocks
 
 -- "address plus count must not pass the number of blocks, count 0 included"
 unfoldable pub within : ℕ → List ℕ → Plan → Plan
-within blocks b p = if leb (address b + count b) blocks then p else Failed (out_of_range (first_outside (address b) blocks))
+within blocks b p = when leb (address b + count b) blocks then p else Failed (out_of_range (first_outside (address b) blocks))
 
 -- "A Write with the switch closed fails 07/27/00, checked after the range", count 0 included (document 02, A4)
 unfoldable pub unless_protected : Bool → Plan → Plan
-unless_protected protected p = if protected then Failed write_protected else p
+unless_protected protected p = when protected then Failed write_protected else p
 
 -- "byte 1 bits 5 to 7 clear", of every command on blocks
 abbrev pub unflagged : List ℕ → Bool
 unflagged b = clear 5 7 (byte_at b 1)
 
 unfoldable pub ranged_of : ℕ → List ℕ → Plan → Plan
-ranged_of blocks b p = if unflagged b then within blocks b p else Failed invalid_field
+ranged_of blocks b p = when unflagged b then within blocks b p else Failed invalid_field
 
 -- The table's rows (SPC-3, 6; SBC-2, 5).
 abbrev pub test_unit_ready : Command
@@ -130,11 +130,11 @@ block_length code = (command_of code).size
 
 -- "Checks: code, fields, range", and then the switch (document 02, A4).
 unfoldable pub plan_by : Command → ℕ → Bool → List ℕ → Plan
-plan_by c blocks protected b = if c.fields b then c.has blocks protected b else Failed invalid_field
+plan_by c blocks protected b = when c.fields b then c.has blocks protected b else Failed invalid_field
 
 -- Among the fields is the control byte: where it stands goes by the code's own length, not the wrapper's.
 unfoldable pub control_clear : List ℕ → Bool
 control_clear b = (command_of (byte_at b 0)).control b
 
 unfoldable pub plan_of : List ℕ → ℕ → Bool → Plan
-plan_of b blocks protected = if control_clear b then plan_by (command_of (byte_at b 0)) blocks protected b else Failed invalid_field
+plan_of b blocks protected = when control_clear b then plan_by (command_of (byte_at b 0)) blocks protected b else Failed invalid_field

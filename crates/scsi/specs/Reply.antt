@@ -1,6 +1,6 @@
 -- The bytes of the replies, and how many they are (document 01, "Commands"; document 02, A2, A4 and A8).
 use Rattle.std.specs.Prelude.{ℕ, ◌-◌, Bool, List, [], ◌∷◌, ◌++◌}
-use Rattle.wire.specs.Choice.{if◌then◌else◌}
+use Rattle.wire.specs.Choice.{when◌then◌else◌}
 use Rattle.wire.specs.Numbers.{big_bytes}
 use Rattle.wire.specs.Packet.{packet_of}
 use Rattle.wire.specs.Slices.{zeros}
@@ -20,7 +20,7 @@ fixed_format code information s = code ∷ 0x00 ∷ s.key ∷ big_bytes 4 inform
 
 -- "Request Sense then sends F0 in byte 0 and that number, big endian, in bytes 3 to 6; other senses keep 70 and zeros." (document 02, A8)
 unfoldable pub sense_data : Sense → List ℕ
-sense_data s = if is_out_of_range s then fixed_format 0xF0 s.information s else fixed_format 0x70 0 s
+sense_data s = when is_out_of_range s then fixed_format 0xF0 s.information s else fixed_format 0x70 0 s
 
 -- Standard INQUIRY data (SPC-3, 6.4.2).
 unfoldable pub inquiry_data : List ℕ
@@ -32,7 +32,7 @@ inquiry_data =
 
 -- Mode parameter header (SPC-3, 7.4.3): "Mode Sense then shows 80 hex in its third byte" (document 02, A4), the bit WP (SBC-2, 6.3.1).
 unfoldable pub mode_data : Bool → List ℕ
-mode_data protected = 0x03 ∷ 0x00 ∷ (if protected then 0x80 else 0x00) ∷ 0x00 ∷ []
+mode_data protected = 0x03 ∷ 0x00 ∷ (when protected then 0x80 else 0x00) ∷ 0x00 ∷ []
 
 -- READ CAPACITY (10) data (SBC-2, 5.10): "last block, then 512".
 unfoldable pub capacity_data : ℕ → List ℕ

@@ -9,7 +9,7 @@ use lib.Dec.{eqb, leb}
 use lib.Seq.{take_all}
 use lib.ListN.{length, take, get_or, set, replicate, length-take, length-replicate, get_or-eq_default}
 use borrow.Author.Tests.{le-ltb, leb-true}
-use Rattle.wire.specs.Choice.{if◌then◌else◌, ◌and◌}
+use Rattle.wire.specs.Choice.{when◌then◌else◌, ◌and◌}
 use Rattle.wire.proofs.Cases.{both}
 use Rattle.machine.specs.declared.record.LogicalUnit.{LogicalUnit}
 use Rattle.machine.specs.Units.{size_fits, Table, unit_at, every, total, follow, laid_out}
@@ -140,7 +140,7 @@ padding k =
 
 pub all-every : (test : LogicalUnit → Bool) → test no_unit ≡ true → (h : Units)
     → all_of h.count (test h.unit0) (test h.unit1) (test h.unit2) (test h.unit3) ≡ every test (table_of h)
-unfolding all_of table_of every if◌then◌else◌
+unfolding all_of table_of every when◌then◌else◌
 all-every test e h =
     by_count (λ (n : ℕ). all_of n (test h.unit0) (test h.unit1) (test h.unit2) (test h.unit3) ≡ every test (take n (h.unit0 ∷ h.unit1 ∷ h.unit2 ∷ h.unit3 ∷ replicate (n - 4) no_unit))) h.count
     refl refl refl refl
@@ -155,7 +155,7 @@ pub all-follow : (h : Units) → h.count ≤ 4
     (eqb h.unit2.first (h.unit0.blocks + h.unit1.blocks) and size_fits h.unit2.blocks)
     (eqb h.unit3.first (h.unit0.blocks + h.unit1.blocks + h.unit2.blocks) and size_fits h.unit3.blocks)
     ≡ follow 0 (table_of h)
-unfolding all_of table_of follow if◌then◌else◌
+unfolding all_of table_of follow when◌then◌else◌
 all-follow h =
     by_count (λ (n : ℕ). n ≤ 4
     → all_of n (eqb h.unit0.first 0 and size_fits h.unit0.blocks) (eqb h.unit1.first h.unit0.blocks and size_fits h.unit1.blocks)
@@ -165,7 +165,7 @@ all-follow h =
     (λ k l. let z : k ≡ 0 = omega arith in rw z (simp (and_assoc, zero-add, and_right)))
 
 pub sum-total : (h : Units) → sum_of h.count h.unit0.blocks h.unit1.blocks h.unit2.blocks h.unit3.blocks ≡ total (table_of h)
-unfolding sum_of table_of total if◌then◌else◌
+unfolding sum_of table_of total when◌then◌else◌
 sum-total h =
     by_count (λ (n : ℕ). sum_of n h.unit0.blocks h.unit1.blocks h.unit2.blocks h.unit3.blocks ≡ total (take n (h.unit0 ∷ h.unit1 ∷ h.unit2 ∷ h.unit3 ∷ replicate (n - 4) no_unit))) h.count
     refl (omega arith) (omega arith) (omega arith)

@@ -1,6 +1,6 @@
 -- A table by value, and the lent table that it stands for.
 use Rattle.std.specs.Prelude.{ℕ, ◌+◌, ◌-◌, Bool, true, [], ◌∷◌, ltb, length, take, replicate, set}
-use Rattle.wire.specs.Choice.{if◌then◌else◌, ◌and◌}
+use Rattle.wire.specs.Choice.{when◌then◌else◌, ◌and◌}
 use Rattle.scsi.specs.Sense.{no_sense}
 use Rattle.machine.specs.declared.record.LogicalUnit.{LogicalUnit}
 use Rattle.machine.specs.Units.{Table, unit, unit_at}
@@ -26,9 +26,9 @@ put_back us h = set (set (set (set us 0 h.unit0) 1 h.unit1) 2 h.unit2) 3 h.unit3
 
 unfoldable pub all_of : ℕ → Bool → Bool → Bool → Bool → Bool
 all_of n a b c d =
-    if ltb n 1
+    when ltb n 1
     then true
-    else a and (if ltb n 2 then true else b and (if ltb n 3 then true else c and (if ltb n 4 then true else d)))
+    else a and (when ltb n 2 then true else b and (when ltb n 3 then true else c and (when ltb n 4 then true else d)))
 
 unfoldable pub sum_of : ℕ → ℕ → ℕ → ℕ → ℕ → ℕ
-sum_of n a b c d = if ltb n 1 then 0 else (if ltb n 2 then a else (if ltb n 3 then a + b else (if ltb n 4 then a + b + c else a + b + c + d)))
+sum_of n a b c d = when ltb n 1 then 0 else (when ltb n 2 then a else (when ltb n 3 then a + b else (when ltb n 4 then a + b + c else a + b + c + d)))

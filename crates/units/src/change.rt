@@ -1,6 +1,6 @@
 // What an event changes in the table, and the table after it.
 ghost use Rattle.std.specs.Prelude.{◌≡◌, true, ◌≤◌, leb, set};
-ghost use Rattle.wire.specs.Choice.{if◌then◌else◌};
+ghost use Rattle.wire.specs.Choice.{when◌then◌else◌};
 ghost use Rattle.machine.specs.Units.{cleared};
 ghost use Rattle.units.specs.Held.{table_of};
 ghost use Rattle.units.specs.Change.{applied};
@@ -57,7 +57,7 @@ fn set(units: Units, n: u8, unit: LogicalUnit) -> Units
 
 // The table after a change; one of more than four units stays as it is.
 pub fn apply(change: Change, units: Units) -> Units
-    ensures { (result.count ≡ units.count) × (table_of result ≡ (if leb units.count 4 then applied change (table_of units) else table_of units)) }
+    ensures { (result.count ≡ units.count) × (table_of result ≡ (when leb units.count 4 then applied change (table_of units) else table_of units)) }
 {
     if 4 < units.count {
         return units;

@@ -1,7 +1,7 @@
 -- Control requests (document 01, "Control requests"; USB 2.0, 9.3 and 9.4; BOT 3): type and request, then value, index and length.
 -- Whether the device must be configured is not decided here.
 use Rattle.std.specs.Prelude.{ℕ, Bool, List, [], ◌∷◌, eqb, leb, length}
-use Rattle.wire.specs.Choice.{if◌then◌else◌, ◌and◌, Row, row, look}
+use Rattle.wire.specs.Choice.{when◌then◌else◌, ◌and◌, Row, row, look}
 use Rattle.wire.specs.Slices.{bytes_at}
 use Rattle.wire.specs.Numbers.{little, big}
 use Rattle.usb.specs.declared.descriptor.Descriptor.{Descriptor}
@@ -22,15 +22,15 @@ is_no_data most value index wlength = leb value most and eqb index 0 and eqb wle
 
 -- "00 05 address 0..7F, 0, 0"
 unfoldable pub set_address : Fields
-set_address v i l = if is_no_data 0x7F v i l then SetAddress v else Stall
+set_address v i l = when is_no_data 0x7F v i l then SetAddress v else Stall
 
 -- "00 09 value 0 or 1, 0, 0"
 unfoldable pub set_configuration : Fields
-set_configuration v i l = if is_no_data 1 v i l then SetConfiguration v else Stall
+set_configuration v i l = when is_no_data 1 v i l then SetConfiguration v else Stall
 
 -- value 0, index 0, and this length
 unfoldable pub bare : ℕ → Request → Fields
-bare wanted r v i l = if eqb v 0 and eqb i 0 and eqb l wanted then r else Stall
+bare wanted r v i l = when eqb v 0 and eqb i 0 and eqb l wanted then r else Stall
 
 -- "for 81 and 02"; "for 00 and 80"
 unfoldable pub endpoints : List (Row Target)
@@ -45,7 +45,7 @@ unfoldable pub endpoint_of : ℕ → Target
 endpoint_of index = look endpoints index Missing
 
 unfoldable pub target_of : ℕ → ℕ → ℕ → ℕ → Target
-target_of wanted v i l = if eqb v 0 and eqb l wanted then endpoint_of i else Missing
+target_of wanted v i l = when eqb v 0 and eqb l wanted then endpoint_of i else Missing
 
 abbrev pub aimed : (Endpoint → Request) → Target → Request
 aimed f Missing = Stall
@@ -57,7 +57,7 @@ at_endpoint wanted f v i l = aimed f (target_of wanted v i l)
 
 -- "first min(length, size) bytes of a descriptor: 0100 device, 0200 configuration, 0300 languages, all with index 0; strings 0301, 0302, 0303 with index 0409"
 unfoldable pub served : Descriptor → ℕ → ℕ → ℕ → Request
-served d wanted i l = if eqb i wanted then GetDescriptor d l else Stall
+served d wanted i l = when eqb i wanted then GetDescriptor d l else Stall
 
 unfoldable pub descriptors : List (Row (ℕ → ℕ → Request))
 descriptors =
@@ -94,6 +94,6 @@ decided key = look requests key (λ _ _ _. Stall)
 -- "Fields are little endian."
 unfoldable pub request_of : List ℕ → Request
 request_of s =
-    if eqb (length s) 8
+    when eqb (length s) 8
     then decided (big (bytes_at 2 0 s)) (little (bytes_at 2 2 s)) (little (bytes_at 2 4 s)) (little (bytes_at 2 6 s))
     else Stall

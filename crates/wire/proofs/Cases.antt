@@ -8,20 +8,20 @@ use lib.Dec.{eqb}
 use types.Run.{OneOf}
 use native.Mathlib.Omega.{arith}
 use borrow.Author.Tests.{ne_eqb, eqb-true}
-use Rattle.wire.specs.Choice.{if◌then◌else◌, ◌and◌, Row, look}
+use Rattle.wire.specs.Choice.{when◌then◌else◌, ◌and◌, Row, look}
 
-pub if-true {ℓ} : {A : Type ℓ} (b : Bool) (x y : A) → b ≡ true → (if b then x else y) ≡ x
-unfolding if◌then◌else◌
+pub if-true {ℓ} : {A : Type ℓ} (b : Bool) (x y : A) → b ≡ true → (when b then x else y) ≡ x
+unfolding when◌then◌else◌
 if-true true x y e = refl
 if-true false x y e = let z : ◌≡◌ {A = ℕ} 0 1 = cc in absurd (omega arith)
 
-pub if-false {ℓ} : {A : Type ℓ} (b : Bool) (x y : A) → b ≡ false → (if b then x else y) ≡ y
-unfolding if◌then◌else◌
+pub if-false {ℓ} : {A : Type ℓ} (b : Bool) (x y : A) → b ≡ false → (when b then x else y) ≡ y
+unfolding when◌then◌else◌
 if-false true x y e = let z : ◌≡◌ {A = ℕ} 0 1 = cc in absurd (omega arith)
 if-false false x y e = refl
 
-pub by-if {ℓ} : {A : Type ℓ} (P : A → Type 0) (b : Bool) (x y : A) → (b ≡ true → P x) → (b ≡ false → P y) → P (if b then x else y)
-unfolding if◌then◌else◌
+pub by-if {ℓ} : {A : Type ℓ} (P : A → Type 0) (b : Bool) (x y : A) → (b ≡ true → P x) → (b ≡ false → P y) → P (when b then x else y)
+unfolding when◌then◌else◌
 by-if P true x y f g = f refl
 by-if P false x y f g = g refl
 
@@ -53,7 +53,7 @@ module _ {A : Type 0} (x : ℕ) where
   inner T (r ∷ rs) h = (inner (T × (x ≡ r.key → ⊥)) rs h).0
 
   pub look-rest : (T : Type 0) (rs : List (Row A)) (other : A) → Rest T rs → look rs x other ≡ other
-  unfolding look if◌then◌else◌
+  unfolding look when◌then◌else◌
   look-rest T [] other h = refl
   look-rest T (r ∷ rs) other h = simp (ne_eqb x r.key (inner (T × (x ≡ r.key → ⊥)) rs h).1) (look-rest (T × (x ≡ r.key → ⊥)) rs other h)
 
@@ -93,7 +93,7 @@ by_keys f v (k ∷ l ∷ ks) x e (inr h) = by_keys f v (l ∷ ks) x (both _ _ e)
 
 unfoldable pub among : ℕ → List ℕ → Bool
 among x [] = false
-among x (k ∷ ks) = if eqb x k then true else among x ks
+among x (k ∷ ks) = when eqb x k then true else among x ks
 
 among_one : (x : ℕ) (ks : List ℕ) → among x ks ≡ true → OneOf ks x
 unfolding among
@@ -108,7 +108,7 @@ covers ks (r ∷ rs) = among r.key ks and covers ks rs
 
 -- a number that is none of the keys is under no row that they cover
 pub look_none : {A : Type 0} (ks : List ℕ) (rs : List (Row A)) (x : ℕ) (other : A) → covers ks rs ≡ true → (OneOf ks x → ⊥) → look rs x other ≡ other
-unfolding covers look if◌then◌else◌
+unfolding covers look when◌then◌else◌
 look_none ks [] x other e n = refl
 look_none ks (r ∷ rs) x other e n =
     let here : x ≡ r.key → ⊥ = λ h. n (subst (OneOf ks) (sym h) (among_one r.key ks (both _ _ e).0)) in

@@ -10,7 +10,7 @@ use lib.Dec.{eqb}
 use lib.ListN.{length, take, drop, get_or, length-append, length-drop, take-append-drop, drop_of_length-le, get_or-eq_default}
 use lib.Seq.{drop-cons, drop-drop, take_all, take_at, length-take-le, drop-append-add}
 use borrow.Author.Tests.{le-leb, lt-leb, leb-true, eqb-true}
-use Rattle.wire.specs.Choice.{if◌then◌else◌, ◌and◌}
+use Rattle.wire.specs.Choice.{when◌then◌else◌, ◌and◌}
 use Rattle.wire.specs.Slices.{byte_at, bytes_at, zeros, Every, starts_with, fits, placed}
 use Rattle.wire.proofs.Cases.{and_false, both, by-if}
 
@@ -48,11 +48,11 @@ unfolding fits
 fits_no d at s h = lt-leb _ _ h
 
 pub placed_yes : (d : List ℕ) (at : ℕ) (s : List ℕ) → at + length s ≤ length d → placed d at s ≡ take at d ++ s ++ drop (at + length s) d
-unfolding placed if◌then◌else◌
+unfolding placed when◌then◌else◌
 placed_yes d at s h = simp (fits_yes d at s h)
 
 pub placed_no : (d : List ℕ) (at : ℕ) (s : List ℕ) → length d < at + length s → placed d at s ≡ d
-unfolding placed if◌then◌else◌
+unfolding placed when◌then◌else◌
 placed_no d at s h = simp (fits_no d at s h)
 
 -- a copy keeps the length

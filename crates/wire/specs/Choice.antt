@@ -1,10 +1,10 @@
 -- Choice, conjunction and look-up in a table: what the definitions of every crate are made of.
 use Rattle.std.specs.Prelude.{ℕ, Bool, true, false, List, [], ◌∷◌, eqb}
 
-infix 10 if◌then◌else◌
-unfoldable pub if◌then◌else◌ {ℓ} : {A : Type ℓ} → Bool → A → A → A
-if true then a else b = a
-if false then a else b = b
+infix 10 when◌then◌else◌
+unfoldable pub when◌then◌else◌ {ℓ} : {A : Type ℓ} → Bool → A → A → A
+when true then a else b = a
+when false then a else b = b
 
 infixr 20 ◌and◌
 unfoldable pub ◌and◌ : Bool → Bool → Bool
@@ -22,4 +22,4 @@ row k a = record { key = k; entry = a }
 -- What stands under a key; under no row's key, the other value.
 unfoldable pub look : {A : Type 0} → List (Row A) → ℕ → A → A
 look [] k other = other
-look (r ∷ rs) k other = if eqb k r.key then r.entry else look rs k other
+look (r ∷ rs) k other = when eqb k r.key then r.entry else look rs k other

@@ -1,6 +1,6 @@
 -- Slices of bytes as lists.
 use Rattle.std.specs.Prelude.{ℕ, zero, suc, ◌+◌, ◌<◌, Bool, true, false, List, [], ◌∷◌, ◌++◌, leb, eqb, length, take, drop, get_or, replicate}
-use Rattle.wire.specs.Choice.{if◌then◌else◌, ◌and◌}
+use Rattle.wire.specs.Choice.{when◌then◌else◌, ◌and◌}
 
 -- The byte at a place, 0 past the end.
 abbrev pub byte_at : List ℕ → ℕ → ℕ
@@ -35,7 +35,7 @@ same r s = eqb (length r) (length s) and starts_with s r
 
 -- The n bytes from a place on, as a slice has them; none, where they do not all lie in s.
 unfoldable pub part : List ℕ → ℕ → ℕ → List ℕ
-part s at n = if leb (at + n) (length s) then take n (drop at s) else []
+part s at n = when leb (at + n) (length s) then take n (drop at s) else []
 
 -- Whether s fits into d from a place on.
 unfoldable pub fits : List ℕ → ℕ → List ℕ → Bool
@@ -43,4 +43,4 @@ fits d at s = leb (at + length s) (length d)
 
 -- d with s from a place on, the rest kept; d itself where s does not fit.
 unfoldable pub placed : List ℕ → ℕ → List ℕ → List ℕ
-placed d at s = if fits d at s then take at d ++ s ++ drop (at + length s) d else d
+placed d at s = when fits d at s then take at d ++ s ++ drop (at + length s) d else d

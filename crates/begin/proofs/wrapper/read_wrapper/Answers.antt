@@ -5,7 +5,7 @@ use mathlib.Core.List.{List}
 use native.Mathlib.Omega.{arith}
 use lib.ListN.{drop}
 use borrow.Author.Tests.{le-leb, lt-leb, le-ltb, lt-ltb}
-use Rattle.wire.specs.Choice.{if◌then◌else◌, ◌and◌}
+use Rattle.wire.specs.Choice.{when◌then◌else◌, ◌and◌}
 use Rattle.wire.proofs.Lists.{tail_is}
 use Rattle.machine.specs.Wrapper.{accepted, wrapper_of, plan_for}
 use Rattle.scsi.specs.Command.{plan_of}
@@ -17,13 +17,13 @@ use Rattle.units.proofs.Held.{length-table}
 use Rattle.begin.proofs.wrapper.read_wrapper.Goals as goal
 
 pub returns-then-units-lun : goal.returns-then-units-lun
-unfolding wrapper_of accepted ◌and◌ if◌then◌else◌
+unfolding wrapper_of accepted ◌and◌ when◌then◌else◌
 returns-then-units-lun c =
     let t = read-readable _ _ _ c.read_header.ensures c.in-Readable.is in
     simp (t.0, sym t.1, length-table c.args.units, le-ltb _ _ c.if-units-lun.true)
 
 pub returns-then-size-block_length : goal.returns-then-size-block_length
-unfolding wrapper_of accepted ◌and◌ if◌then◌else◌
+unfolding wrapper_of accepted ◌and◌ when◌then◌else◌
 returns-then-size-block_length c =
     let t = read-readable _ _ _ c.read_header.ensures c.in-Readable.is in
     simp (t.0, sym t.1, length-table c.args.units, lt-ltb _ _ c.if-units-lun.false, sym c.byte.ensures, sym c.block_length.ensures, lt-leb _ _ c.if-size-block_length.true)
@@ -39,11 +39,11 @@ slice_bounds-plan_of-start c =
     let l = readable_long _ t.0 in omega arith
 
 pub returns-in-Unreadable : goal.returns-in-Unreadable
-unfolding wrapper_of accepted ◌and◌ if◌then◌else◌
+unfolding wrapper_of accepted ◌and◌ when◌then◌else◌
 returns-in-Unreadable c = simp (not-readable _ _ c.read_header.ensures c.in-Unreadable.is)
 
 pub returns-else-size-block_length : goal.returns-else-size-block_length
-unfolding wrapper_of accepted ◌and◌ if◌then◌else◌
+unfolding wrapper_of accepted ◌and◌ when◌then◌else◌
 returns-else-size-block_length c =
     let a = c.args in
     let u = c.unit_at-unit.result in

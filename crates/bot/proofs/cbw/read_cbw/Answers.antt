@@ -5,7 +5,7 @@ use mathlib.Core.Bool.{true}
 use mathlib.Core.List.{List}
 use native.Mathlib.Omega.{arith}
 use lib.ListN.{length-drop}
-use Rattle.wire.specs.Choice.{if◌then◌else◌}
+use Rattle.wire.specs.Choice.{when◌then◌else◌}
 use Rattle.wire.specs.Slices.{zeros}
 use Rattle.wire.proofs.Lists.{placed-whole, tail_is}
 use Rattle.bot.specs.declared.cbw.Header.{Header}
@@ -23,11 +23,11 @@ pub slice_bounds-put-start : goal.slice_bounds-put-start
 slice_bounds-put-start c = let l = readable_long _ (read-readable _ _ _ c.read_header.ensures c.in-Readable.is).0 in omega arith
 
 pub returns-in-Unreadable : goal.returns-in-Unreadable
-unfolding read_cbw zero_cbw zeros if◌then◌else◌
+unfolding read_cbw zero_cbw zeros when◌then◌else◌
 returns-in-Unreadable c = simp (not-readable _ _ c.read_header.ensures c.in-Unreadable.is)
 
 pub returns-in-Readable : goal.returns-in-Readable
-unfolding read_cbw if◌then◌else◌
+unfolding read_cbw when◌then◌else◌
 returns-in-Readable c =
     let t = read-readable _ _ _ c.read_header.ensures c.in-Readable.is in
     let p = c.args.bytes.now in

@@ -8,7 +8,7 @@ use lib.Dec.{lit≤}
 use lib.ListN.{length, get_or}
 use borrow.Author.Tests.{not-true, not-false}
 use Rattle.wire.specs.Bits.{clear}
-use Rattle.wire.specs.Choice.{if◌then◌else◌}
+use Rattle.wire.specs.Choice.{when◌then◌else◌}
 use Rattle.wire.proofs.Masks.{top_bits, low_bits}
 use Rattle.bot.specs.Cbw.{readable, header_of, read_header}
 use Rattle.bot.proofs.Wrappers.{readable_long}
@@ -19,7 +19,7 @@ long : (p : List ℕ) (r : Bool) → r ≡ readable p → not r ≡ false → le
 long p r e f = readable_long p (sym e ∙ not-false r f)
 
 pub returns-then-not-is_readable : goal.returns-then-not-is_readable
-unfolding read_header if◌then◌else◌
+unfolding read_header when◌then◌else◌
 returns-then-not-is_readable c = simp (sym c.is_readable.ensures ∙ not-true _ c.if-not-is_readable.true-raw)
 
 pub bounds-bytes-12 : goal.bounds-bytes-12
@@ -32,7 +32,7 @@ pub bounds-bytes-14 : goal.bounds-bytes-14
 bounds-bytes-14 c = let h = long c.args.bytes.now _ c.is_readable.ensures c.if-not-is_readable.false-raw in omega arith
 
 pub returns : goal.returns
-unfolding read_header header_of clear if◌then◌else◌
+unfolding read_header header_of clear when◌then◌else◌
 returns c =
     let p = c.args.bytes.now in
     simp (

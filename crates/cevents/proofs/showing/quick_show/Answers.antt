@@ -3,7 +3,7 @@ use mathlib.Core.Path.{sym, ◌∙◌}
 use mathlib.Core.Bool.{true≢false}
 use native.Mathlib.Omega.{arith}
 use borrow.Author.Tests.{not-true, not-false, eqb-true, eq-eqb}
-use Rattle.wire.specs.Choice.{if◌then◌else◌, ◌and◌}
+use Rattle.wire.specs.Choice.{when◌then◌else◌, ◌and◌}
 use Rattle.wire.proofs.Cases.{both, if-false}
 use Rattle.cevents.specs.Quick.{quick_show}
 use Rattle.cevents.proofs.Due.{untrue, reads, reads_on_lem, reading_on, is_reading_lem, reads-due, within_word, read-last, read_more}
@@ -38,7 +38,7 @@ pub overflow_sub-left : goal.overflow_sub-left
 overflow_sub-left c = omega (arith, c.if-left-gt64.true)
 
 pub returns-then-left-gt64 : goal.returns-then-left-gt64
-unfolding quick_show if◌then◌else◌ ◌and◌
+unfolding quick_show when◌then◌else◌ ◌and◌
 returns-then-left-gt64 c =
     let a = c.args in
     let t = c.if-left-gt64.true in
@@ -56,7 +56,7 @@ unfolding quick_show
 returns-then-flat-ne64 c = c.not_shown-then-flat-ne64.ensures ∙ sym (if-false _ _ _ (sym (untrue _ (λ e. c.if-flat-ne64.true ((reads _ _ _ _ (both _ _ (both _ _ e).1).1).last c.if-left-ne64.false)))))
 
 pub returns : goal.returns
-unfolding quick_show if◌then◌else◌ ◌and◌
+unfolding quick_show when◌then◌else◌ ◌and◌
 returns c =
     let a = c.args in
     let l = c.if-left-ne64.false in

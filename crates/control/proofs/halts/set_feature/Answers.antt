@@ -3,7 +3,7 @@ use Prim.Native.Nat.{ℕ}
 use mathlib.Core.Path.{◌≡◌, sym, ◌∙◌}
 use mathlib.Core.Bool.{Bool, true, false}
 use mathlib.Core.List.{List}
-use Rattle.wire.specs.Choice.{if◌then◌else◌}
+use Rattle.wire.specs.Choice.{when◌then◌else◌}
 use Rattle.machine.specs.declared.answer.Answer.TheVariants.{Ack}
 use Rattle.machine.specs.declared.record.State.{State}
 use Rattle.machine.specs.World.{World, in_state, out}
@@ -11,17 +11,17 @@ use Rattle.machine.specs.Control.{needs_configured, halt_in, halt_out, clear_hal
 use Rattle.control.proofs.halts.set_feature.Goals as goal
 
 -- at a bulk pipe, setting and clearing differ in the halt alone
-at_pipe : (f : Bool → State → State) (on : Bool) (w : World) (b : List ℕ) (s : State) → s ≡ f on w.dev.state → needs_configured w b (out Ack (in_state w s) b) ≡ if on then needs_configured w b (out Ack (in_state w (f true w.dev.state)) b) else needs_configured w b (out Ack (in_state w (f false w.dev.state)) b)
-unfolding if◌then◌else◌
+at_pipe : (f : Bool → State → State) (on : Bool) (w : World) (b : List ℕ) (s : State) → s ≡ f on w.dev.state → needs_configured w b (out Ack (in_state w s) b) ≡ when on then needs_configured w b (out Ack (in_state w (f true w.dev.state)) b) else needs_configured w b (out Ack (in_state w (f false w.dev.state)) b)
+unfolding when◌then◌else◌
 at_pipe f true w b s e = simp e
 at_pipe f false w b s e = simp e
 
 pub returns-then-on : goal.returns-then-on
-unfolding if◌then◌else◌ set_halt
+unfolding when◌then◌else◌ set_halt
 returns-then-on c = λ w b. simp (c.if-on.true, c.in-Control.is)
 
 pub returns-else-on : goal.returns-else-on
-unfolding if◌then◌else◌ clear_halt
+unfolding when◌then◌else◌ clear_halt
 returns-else-on c = λ w b. simp (c.if-on.false, c.in-Control.is)
 
 pub returns-in-BulkIn : goal.returns-in-BulkIn

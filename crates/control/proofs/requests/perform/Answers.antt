@@ -1,5 +1,5 @@
 -- `perform` meets its contract. Assumes nothing.
-use Rattle.wire.specs.Choice.{if◌then◌else◌}
+use Rattle.wire.specs.Choice.{when◌then◌else◌}
 use Rattle.machine.specs.Record.{device, no_device}
 use Rattle.machine.specs.World.{world}
 use Rattle.machine.specs.Control.{perform}
@@ -34,11 +34,11 @@ returns-in-GetEndpointStatus c =
     λ us m l. simp c.in-GetEndpointStatus.is (c.endpoint_status.ensures (world (device _ no_device.state _) us m))
 
 pub returns-in-ClearHalt : goal.returns-in-ClearHalt
-unfolding perform if◌then◌else◌
+unfolding perform when◌then◌else◌
 returns-in-ClearHalt c = λ us m l. simp c.in-ClearHalt.is (c.set_feature.ensures (world (device _ no_device.state _) us m) _)
 
 pub returns-in-SetHalt : goal.returns-in-SetHalt
-unfolding perform if◌then◌else◌
+unfolding perform when◌then◌else◌
 returns-in-SetHalt c = λ us m l. simp c.in-SetHalt.is (c.set_feature-in-SetHalt.ensures (world (device _ no_device.state _) us m) _)
 
 pub returns-in-MassStorageReset : goal.returns-in-MassStorageReset

@@ -3,12 +3,12 @@ use Prim.Native.Nat.{ℕ, ◌≤◌}
 use mathlib.Core.Path.{◌≡◌}
 use mathlib.Core.Bool.{Bool, true, false}
 use native.Mathlib.Omega.{arith}
-use Rattle.wire.specs.Choice.{if◌then◌else◌}
+use Rattle.wire.specs.Choice.{when◌then◌else◌}
 use Rattle.crecord.specs.Flat.{worth, flags_of}
 use Rattle.crecord.proofs.encode.flags_of.Goals as goal
 
 at_most : (on : Bool) (n r : ℕ) → r ≡ worth on n → r ≤ n
-unfolding worth if◌then◌else◌
+unfolding worth when◌then◌else◌
 at_most true n r e = omega arith
 at_most false n r e = omega arith
 

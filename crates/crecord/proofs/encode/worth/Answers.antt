@@ -1,12 +1,12 @@
 -- `worth` meets its contract. Assumes nothing.
-use Rattle.wire.specs.Choice.{if◌then◌else◌}
+use Rattle.wire.specs.Choice.{when◌then◌else◌}
 use Rattle.crecord.specs.Flat.{worth}
 use Rattle.crecord.proofs.encode.worth.Goals as goal
 
 pub returns-then-on : goal.returns-then-on
-unfolding worth if◌then◌else◌
+unfolding worth when◌then◌else◌
 returns-then-on c = simp c.if-on.true
 
 pub returns : goal.returns
-unfolding worth if◌then◌else◌
+unfolding worth when◌then◌else◌
 returns c = simp c.if-on.false

@@ -1,12 +1,12 @@
 -- `hex_digit` meets its contract. Assumes nothing.
 use borrow.Author.Tests.{lt-ltb, le-ltb}
-use Rattle.wire.specs.Choice.{if◌then◌else◌}
+use Rattle.wire.specs.Choice.{when◌then◌else◌}
 use Rattle.printout.proofs.print.hex_digit.Goals as goal
 
 pub returns-then-d-lt10 : goal.returns-then-d-lt10
-unfolding if◌then◌else◌
+unfolding when◌then◌else◌
 returns-then-d-lt10 c = simp (lt-ltb _ _ c.if-d-lt10.true)
 
 pub returns-else-d-lt10 : goal.returns-else-d-lt10
-unfolding if◌then◌else◌
+unfolding when◌then◌else◌
 returns-else-d-lt10 c = simp (le-ltb _ _ c.if-d-lt10.false)

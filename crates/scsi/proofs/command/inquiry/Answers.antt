@@ -2,13 +2,13 @@
 use mathlib.Core.Path.{sym, ◌∙◌}
 use lib.Dec.{lit≤}
 use borrow.Author.Tests.{eq-eqb, ne_eqb}
-use Rattle.wire.specs.Choice.{if◌then◌else◌}
+use Rattle.wire.specs.Choice.{when◌then◌else◌}
 use Rattle.wire.proofs.Masks.{mask}
 use Rattle.scsi.specs.Command.{plan_by, inquired}
 use Rattle.scsi.proofs.command.inquiry.Goals as goal
 
 pub returns-then-evpd-ne0 : goal.returns-then-evpd-ne0
-unfolding plan_by inquired if◌then◌else◌
+unfolding plan_by inquired when◌then◌else◌
 returns-then-evpd-ne0 c = λ n p.
     simp (
       sym c.byte-evpd.ensures,
@@ -19,7 +19,7 @@ returns-then-evpd-ne0 c = λ n p.
     )
 
 pub returns-then-code-ne0 : goal.returns-then-code-ne0
-unfolding plan_by inquired if◌then◌else◌
+unfolding plan_by inquired when◌then◌else◌
 returns-then-code-ne0 c = λ n p.
     simp (
       sym c.byte-evpd.ensures,
@@ -29,7 +29,7 @@ returns-then-code-ne0 c = λ n p.
     )
 
 pub returns : goal.returns
-unfolding plan_by inquired if◌then◌else◌
+unfolding plan_by inquired when◌then◌else◌
 returns c = λ n p.
     simp (
       sym c.byte-evpd.ensures,

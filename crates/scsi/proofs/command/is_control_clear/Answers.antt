@@ -5,7 +5,7 @@ use mathlib.Core.Bool.{Bool, true}
 use mathlib.Core.List.{List}
 use lib.Dec.{lit≤, leb}
 use borrow.Author.Tests.{le-leb, lt-leb}
-use Rattle.wire.specs.Choice.{if◌then◌else◌}
+use Rattle.wire.specs.Choice.{when◌then◌else◌}
 use Rattle.wire.specs.Bits.{clear}
 use Rattle.wire.specs.Slices.{byte_at}
 use Rattle.wire.proofs.Cases.{look-all}
@@ -15,13 +15,13 @@ use Rattle.scsi.proofs.command.is_control_clear.Goals as goal
 
 -- what the code tests
 abbrev last-clear : ℕ → List ℕ → Bool
-last-clear size b = if leb size 1 then true else clear 0 2 (byte_at b (size - 1))
+last-clear size b = when leb size 1 then true else clear 0 2 (byte_at b (size - 1))
 
 abbrev ByLength : Command → Type 0
 ByLength c = (b : List ℕ) → c.control b ≡ last-clear c.size b
 
 every-row : (code : ℕ) → ByLength (command_of code)
-unfolding command_of commands if◌then◌else◌
+unfolding command_of commands when◌then◌else◌
 every-row code =
     look-all ByLength _ code unknown
     ((λ b. refl), ((λ b. refl), ((λ b. refl), ((λ b. refl), ((λ b. refl), ((λ b. refl), ((λ b. refl), ((λ b. refl), ((λ b. refl), tt)))))))))
@@ -32,11 +32,11 @@ unfolding control_clear block_length
 by_length b = every-row (byte_at b 0) b
 
 pub returns-then-size-le1 : goal.returns-then-size-le1
-unfolding if◌then◌else◌
+unfolding when◌then◌else◌
 returns-then-size-le1 c = simp (by_length, sym c.byte.ensures, sym c.block_length-size.ensures, le-leb _ _ c.if-size-le1.true)
 
 pub returns : goal.returns
-unfolding if◌then◌else◌
+unfolding when◌then◌else◌
 returns c =
     simp (
       by_length,

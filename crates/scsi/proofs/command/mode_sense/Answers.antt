@@ -1,14 +1,14 @@
 -- `mode_sense` meets its contract. Assumes nothing.
 use mathlib.Core.Path.{sym}
 use borrow.Author.Tests.{eq-eqb, ne_eqb}
-use Rattle.wire.specs.Choice.{if◌then◌else◌}
+use Rattle.wire.specs.Choice.{when◌then◌else◌}
 use Rattle.scsi.specs.Command.{plan_by}
 use Rattle.scsi.proofs.command.mode_sense.Goals as goal
 
 pub returns-then-byte-ne63 : goal.returns-then-byte-ne63
-unfolding plan_by if◌then◌else◌
+unfolding plan_by when◌then◌else◌
 returns-then-byte-ne63 c = λ n p. simp (sym c.byte.ensures, ne_eqb _ _ c.if-byte-ne63.true)
 
 pub returns : goal.returns
-unfolding plan_by if◌then◌else◌
+unfolding plan_by when◌then◌else◌
 returns c = λ n p. simp (sym c.byte.ensures, eq-eqb _ _ c.if-byte-ne63.false, c.reply.ensures)

@@ -2,15 +2,15 @@
 use mathlib.Core.Path.{sym, ◌∙◌}
 use lib.Dec.{lit≤}
 use borrow.Author.Tests.{eq-eqb, ne_eqb}
-use Rattle.wire.specs.Choice.{if◌then◌else◌}
+use Rattle.wire.specs.Choice.{when◌then◌else◌}
 use Rattle.wire.proofs.Masks.{mask}
 use Rattle.scsi.specs.Command.{plan_by}
 use Rattle.scsi.proofs.command.prevent_allow.Goals as goal
 
 pub returns-then-byte-ne0 : goal.returns-then-byte-ne0
-unfolding plan_by if◌then◌else◌
+unfolding plan_by when◌then◌else◌
 returns-then-byte-ne0 c = λ n p. simp (sym c.byte.ensures, mask 0 0 c.byte.result (lit≤ tt) ∙ ne_eqb _ _ c.if-byte-ne0.true)
 
 pub returns : goal.returns
-unfolding plan_by if◌then◌else◌
+unfolding plan_by when◌then◌else◌
 returns c = λ n p. simp (sym c.byte.ensures, mask 0 0 c.byte.result (lit≤ tt) ∙ eq-eqb _ _ c.if-byte-ne0.false)

@@ -2,17 +2,17 @@
 use mathlib.Core.Path.{sym, ◌∙◌}
 use lib.Dec.{lit≤}
 use borrow.Author.Tests.{eq-eqb, ne_eqb, le-leb, lt-leb}
-use Rattle.wire.specs.Choice.{if◌then◌else◌}
+use Rattle.wire.specs.Choice.{when◌then◌else◌}
 use Rattle.wire.proofs.Masks.{mask}
 use Rattle.scsi.specs.Command.{ranged_of, within}
 use Rattle.scsi.proofs.command.ranged.Goals as goal
 
 pub returns-then-byte-ne0 : goal.returns-then-byte-ne0
-unfolding ranged_of if◌then◌else◌
+unfolding ranged_of when◌then◌else◌
 returns-then-byte-ne0 c = simp (sym c.byte.ensures, mask 5 7 c.byte.result (lit≤ tt) ∙ ne_eqb _ _ c.if-byte-ne0.true)
 
 pub returns-then-blocks-first : goal.returns-then-blocks-first
-unfolding ranged_of within if◌then◌else◌
+unfolding ranged_of within when◌then◌else◌
 returns-then-blocks-first c =
     simp (
       sym c.byte.ensures,
@@ -25,7 +25,7 @@ returns-then-blocks-first c =
     )
 
 pub returns : goal.returns
-unfolding ranged_of within if◌then◌else◌
+unfolding ranged_of within when◌then◌else◌
 returns c =
     simp (
       sym c.byte.ensures,

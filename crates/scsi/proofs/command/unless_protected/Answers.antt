@@ -1,12 +1,12 @@
 -- `unless_protected` meets its contract. Assumes nothing.
-use Rattle.wire.specs.Choice.{if◌then◌else◌}
+use Rattle.wire.specs.Choice.{when◌then◌else◌}
 use Rattle.scsi.specs.Command.{unless_protected}
 use Rattle.scsi.proofs.command.unless_protected.Goals as goal
 
 pub returns-then-protected : goal.returns-then-protected
-unfolding unless_protected if◌then◌else◌
+unfolding unless_protected when◌then◌else◌
 returns-then-protected c = simp c.if-protected.true
 
 pub returns : goal.returns
-unfolding unless_protected if◌then◌else◌
+unfolding unless_protected when◌then◌else◌
 returns c = simp c.if-protected.false

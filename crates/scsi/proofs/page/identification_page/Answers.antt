@@ -4,7 +4,7 @@ use mathlib.Core.Path.{◌≡◌, ap, ◌∙◌}
 use mathlib.Core.List.{List, [], ◌∷◌, ◌++◌}
 use lib.ListN.{replicate}
 use native.Mathlib.Omega.{arith}
-use Rattle.wire.specs.Choice.{if◌then◌else◌}
+use Rattle.wire.specs.Choice.{when◌then◌else◌}
 use Rattle.wire.specs.Slices.{fits, placed}
 use Rattle.wire.specs.Texts.{padded, vendor_text}
 use Rattle.scsi.proofs.Pages.{put_last}
@@ -15,7 +15,7 @@ front = 0x00 ∷ 0x83 ∷ 0x00 ∷ 0x18 ∷ 0x02 ∷ 0x01 ∷ 0x00 ∷ 0x14 ∷ 
 
 -- front and vendor, put into 28 spaces
 in_spaces : (a b : List ℕ) → a ≡ placed (replicate 28 0x20) 0 front → b ≡ placed a 8 vendor_text → b ≡ front ++ padded 8 vendor_text ++ replicate 12 0x20
-unfolding placed fits if◌then◌else◌ padded
+unfolding placed fits when◌then◌else◌ padded
 in_spaces a b e f = f ∙ ap (λ (x : List ℕ). placed x 8 vendor_text) e
 
 pub returns : goal.returns

@@ -1,18 +1,18 @@
 -- `halt_target` meets its contract. Assumes nothing.
 use borrow.Author.Tests.{eq-eqb, ne_eqb}
-use Rattle.wire.specs.Choice.{if◌then◌else◌, ◌and◌}
+use Rattle.wire.specs.Choice.{when◌then◌else◌, ◌and◌}
 use Rattle.usb.specs.Request.{target_of}
 use Rattle.usb.proofs.request.halt_target.Goals as goal
 
 pub returns-then-value-ne0 : goal.returns-then-value-ne0
-unfolding target_of if◌then◌else◌ ◌and◌
+unfolding target_of when◌then◌else◌ ◌and◌
 returns-then-value-ne0 c = simp (ne_eqb _ _ c.if-value-ne0.true)
 
 pub returns-then-wlength-wanted : goal.returns-then-wlength-wanted
-unfolding target_of if◌then◌else◌ ◌and◌
+unfolding target_of when◌then◌else◌ ◌and◌
 returns-then-wlength-wanted c = simp (eq-eqb _ _ c.if-value-ne0.false, ne_eqb _ _ c.if-wlength-wanted.true)
 
 pub returns : goal.returns
-unfolding target_of if◌then◌else◌ ◌and◌
+unfolding target_of when◌then◌else◌ ◌and◌
 returns c =
     simp (eq-eqb _ _ c.if-value-ne0.false, eq-eqb _ _ c.if-wlength-wanted.false) c.endpoint_of.ensures
