@@ -37,7 +37,7 @@ def missing(page):
     """The paths that a page names, in backticks and from the top, from crates/ or from a crate, and that are not there."""
     for word in re.findall(r"`([^`\s]+)`", read(page)):
         is_path = re.fullmatch(r"[\w./{},*-]+", word) and ("/" in word or re.search(ENDINGS, word))
-        if is_path and not word.startswith("target/"):
+        if is_path and not word.startswith("target/") and "/out/" not in word:
             for path in expanded(word):
                 if not any(glob.glob(root + path, recursive=True) for root in ("", "crates/", "crates/*/", "crates/**/")):
                     yield path

@@ -16,12 +16,12 @@ def build(package, target, *flags, **variables):
 
 
 def peer(wrong):
-    """The usbredir peer: with the archive of COLLECTOR_LIB_DIR (or ../target/staticlib), or with a wrong device."""
+    """The usbredir peer: with the archive of COLLECTOR_LIB_DIR (or ../crates/capi/out), or with a wrong device."""
     if wrong:
         return build("peer", "wrong", "--features", "wrong")
-    archive = os.path.abspath(os.environ.get("COLLECTOR_LIB_DIR") or os.path.join(os.path.dirname(DEPOT), "target", "staticlib"))
+    archive = os.path.abspath(os.environ.get("COLLECTOR_LIB_DIR") or os.path.join(os.path.dirname(DEPOT), "crates", "capi", "out"))
     if not os.path.exists(os.path.join(archive, "libcapi.a")):
-        raise SystemExit("depot: no libcapi.a in %s: make it with 'rt staticlib capi' (COLLECTOR_LIB_DIR names another folder)" % archive)
+        raise SystemExit("depot: no libcapi.a in %s: make it with 'rt lib capi' (COLLECTOR_LIB_DIR names another folder)" % archive)
     return build("peer", "archive", COLLECTOR_LIB_DIR=archive)
 
 
