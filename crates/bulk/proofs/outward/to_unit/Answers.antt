@@ -3,7 +3,7 @@ use Prim.Native.Nat.{◌+◌, ◌*◌, ◌-◌}
 use mathlib.Core.Path.{refl, sym, ap}
 use native.Mathlib.Omega.{arith}
 use lib.Seq.{set-get_or}
-use Rattle.wire.specs.Choice.{if◌then◌else◌}
+use Rattle.wire.specs.Choice.{when◌then◌else◌}
 use Rattle.wire.proofs.Parts.{length_part}
 use Rattle.machine.specs.declared.record.LogicalUnit.{LogicalUnit}
 use Rattle.machine.specs.Units.{unit_at}
@@ -33,7 +33,7 @@ on_data-taken-requires c =
     gathering a.state (table_of a.units) a.block a.left a.held a.medium.now _ d (omega arith)
 
 pub returns-then-cut : goal.returns-then-cut
-unfolding if◌then◌else◌
+unfolding when◌then◌else◌
 returns-then-cut c =
     λ i.
     let a = c.args in
@@ -45,7 +45,7 @@ returns-then-cut c =
     given_back (table_of a.units) a.medium.now a.state.link.task.lun u (512 * u.first + 512 * u.blocks - 512 * u.first) e (omega arith) (omega arith) _ _ _ _ (simp c.if-cut.true at (c.on_data-taken.ensures i (unit_at (table_of a.units) a.state.link.task.lun))) (refl) (search rules)
 
 pub returns : goal.returns
-unfolding if◌then◌else◌
+unfolding when◌then◌else◌
 returns c =
     λ i.
     let a = c.args in
