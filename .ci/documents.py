@@ -18,7 +18,7 @@ def read(path):
 
 def specifications():
     """The rows of the table."""
-    crates = [line.split("#")[0].split(":")[0].strip() for line in read("crates.txt").splitlines()]
+    crates = [line.split()[0].rstrip(":") for line in read("crates.txt").splitlines() if line.strip() and not line.startswith("#")]
     for crate in crates:
         root = "crates/%s/specs/" % crate
         for name in re.findall(r"^pub mod (\w+)", read(root + "Lib.antt"), re.M) if os.path.exists(root + "Lib.antt") else []:

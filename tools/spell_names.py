@@ -1,11 +1,16 @@
 #!/usr/bin/env python3
 """Spells the names of the repository's own definitions and lemmas as today's Rattle does: words in snake case.
 
-usage: python3 tools/spell_names.py      at the top, once, after port.py
+usage: python3 tools/spell_names.py           at the top, once, after port.py
+       python3 tools/spell_names.py --list    only lists the old and the new names
 
 A name in camel case, of a definition or of a field, gets underscores. A dash stays only between two names of
-definitions (`length-placed`), and a plain word is joined by an underscore (`placed_yes`). Types, modules, goals of
-proof files and every name of src/ stay as they are.
+definitions, of ours or of the library's (`length-placed`); a plain word is joined by an underscore (`placed_yes`). Where
+a definition comes to a name that a lemma, a field or a variable has by now, that one gets `_lem`. Types, modules, goals
+of proof files and every name of src/ stay as they are.
+
+Written are .antt files, with camel case in their comments too, and in .rt and .edit files the names in camel case,
+which stand in clauses, `ghost use` lines, edits of .antt files and comments. Which names collide depends on all the crates that are there.
 """
 
 import os
@@ -121,7 +126,7 @@ def named(m, line, new, moved, fields):
 
 
 def rust(line, new):
-    """A name in camel case is never one of Rust's: it stands in a clause, a `ghost use` an edit of an .antt file or a comment."""
+    """A name in camel case is never one of Rust's: it stands in a clause, a `ghost use`, an edit of an .antt file or a comment."""
     parts = re.split(r'(b?"[^"]*")', line)
     return "".join(w if i % 2 else WORD.sub(lambda m: new.get(m[0], m[0]) if re.search(r"[a-z0-9][A-Z]", m[0]) and m[0][0].islower() else m[0], w) for i, w in enumerate(parts))
 
