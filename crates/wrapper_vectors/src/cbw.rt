@@ -3,42 +3,44 @@ use crate::answer::written;
 use crate::print::{bytes, end, hex, text, word};
 use bot::answer::Answer;
 use bot::cbw::{Cbw, Header, read_cbw, write_cbw};
+use std::io;
+use std::io::Write;
 
-fn direction(inward: bool) {
+fn direction(out: &mut impl Write, inward: bool) -> io::Result<()> {
     if inward {
-        text(b" in");
+        text(out, b" in")
     } else {
-        text(b" out");
+        text(out, b" out")
     }
 }
 
-fn fields(cbw: Cbw) {
+fn fields(out: &mut impl Write, cbw: Cbw) -> io::Result<()> {
     let header = cbw.header;
     let block = cbw.block;
-    text(b" tag");
-    word(header.tag);
-    text(b" announced");
-    word(header.announced);
-    direction(header.inward);
-    text(b" unit");
-    hex(header.lun);
-    text(b" length");
-    hex(header.size);
-    text(b" block");
-    bytes(&block, 16);
+    text(out, b" tag")?;
+    word(out, header.tag)?;
+    text(out, b" announced")?;
+    word(out, header.announced)?;
+    direction(out, header.inward)?;
+    text(out, b" unit")?;
+    hex(out, header.lun)?;
+    text(out, b" length")?;
+    hex(out, header.size)?;
+    text(out, b" block")?;
+    bytes(out, &block, 16)
 }
 
-fn read(name: &[u8], s: &[u8]) {
+fn read(out: &mut impl Write, name: &[u8], s: &[u8]) -> io::Result<()> {
     let found = read_cbw(s);
     let answer = found.answer;
     let cbw = found.cbw;
-    text(name);
+    text(out, name)?;
     match answer {
-        Answer::Written { count: _ } => text(b" written"),
-        Answer::Read => fields(cbw),
-        Answer::Refused => text(b" refused"),
+        Answer::Written { count: _ } => text(out, b" written")?,
+        Answer::Read => fields(out, cbw)?,
+        Answer::Refused => text(out, b" refused")?,
     }
-    end();
+    end(out)
 }
 
 fn read_capacity(lun: u8) -> Cbw {
@@ -56,36 +58,37 @@ fn read_capacity(lun: u8) -> Cbw {
     }
 }
 
-fn whole() {
-    let mut out = [0; 31];
-    let answer = write_cbw(read_capacity(0), &mut out);
-    written(b"cbw written:", answer, &out);
-    read(b"cbw read:", &out);
+fn whole(out: &mut impl Write) -> io::Result<()> {
+    let mut buffer = [0; 31];
+    let answer = write_cbw(read_capacity(0), &mut buffer);
+    written(out, b"cbw written:", answer, &buffer)?;
+    read(out, b"cbw read:", &buffer)
 }
 
 // The same wrapper without its last byte.
-fn cut() {
+fn cut(out: &mut impl Write) -> io::Result<()> {
     read(
+        out,
         b"cbw of 30 bytes:",
         b"USBC\x08\x60\x6A\x82\x08\0\0\0\x80\0\x0A\x25\0\0\0\0\0\0\0\0\0\0\0\0\0\0",
-    );
+    )
 }
 
-fn short_buffer() {
-    let mut out = [0; 30];
-    let answer = write_cbw(read_capacity(0), &mut out);
-    written(b"cbw to a buffer of 30 bytes:", answer, &out);
+fn short_buffer(out: &mut impl Write) -> io::Result<()> {
+    let mut buffer = [0; 30];
+    let answer = write_cbw(read_capacity(0), &mut buffer);
+    written(out, b"cbw to a buffer of 30 bytes:", answer, &buffer)
 }
 
-fn unit_16() {
-    let mut out = [0; 31];
-    let answer = write_cbw(read_capacity(16), &mut out);
-    written(b"cbw of unit 16:", answer, &out);
+fn unit_16(out: &mut impl Write) -> io::Result<()> {
+    let mut buffer = [0; 31];
+    let answer = write_cbw(read_capacity(16), &mut buffer);
+    written(out, b"cbw of unit 16:", answer, &buffer)
 }
 
-pub(crate) fn run() {
-    whole();
-    cut();
-    short_buffer();
-    unit_16();
+pub(crate) fn run(out: &mut impl Write) -> io::Result<()> {
+    whole(out)?;
+    cut(out)?;
+    short_buffer(out)?;
+    unit_16(out)
 }

@@ -8,8 +8,11 @@ mod csw;
 mod print;
 mod thirteen;
 
-fn main() {
-    csw::run();
-    cbw::run();
-    thirteen::run();
+use std::io;
+
+fn main(rt: HostRuntime) -> io::Result<()> {
+    let mut out = rt.stdout();
+    csw::run(&mut out)?;
+    cbw::run(&mut out)?;
+    thirteen::run(&mut out)
 }
