@@ -6,7 +6,10 @@ mod plans;
 mod print;
 mod replies;
 
-fn main() {
-    replies::run();
-    plans::run();
+use std::io;
+
+fn main(rt: HostRuntime) -> io::Result<()> {
+    let mut out = rt.stdout();
+    replies::run(&mut out)?;
+    plans::run(&mut out)
 }

@@ -4,185 +4,188 @@ use scsi::command::{Plan, block_length, plan_of};
 use scsi::page::Page;
 use scsi::reply::ReplyKind;
 use scsi::sense::Sense;
+use std::io;
+use std::io::Write;
 use wire::fields::put_be16;
 use wire::slices::byte;
 
-fn sense(s: Sense) {
-    hex(s.key);
-    hex(s.asc);
-    hex(s.ascq);
+fn sense(out: &mut impl Write, s: Sense) -> io::Result<()> {
+    hex(out, s.key)?;
+    hex(out, s.asc)?;
+    hex(out, s.ascq)?;
     if s.is_out_of_range() {
-        text(b" block");
-        word(s.information);
+        text(out, b" block")?;
+        word(out, s.information)?;
     }
+    Ok(())
 }
 
-fn reply(kind: ReplyKind) {
+fn reply(out: &mut impl Write, kind: ReplyKind) -> io::Result<()> {
     match kind {
-        ReplyKind::Sense => text(b" sense"),
-        ReplyKind::Inquiry => text(b" inquiry"),
+        ReplyKind::Sense => text(out, b" sense"),
+        ReplyKind::Inquiry => text(out, b" inquiry"),
         ReplyKind::Page(page) => match page {
-            Page::Supported => text(b" page 00"),
-            Page::Serial => text(b" page 80"),
-            Page::Identification => text(b" page 83"),
+            Page::Supported => text(out, b" page 00"),
+            Page::Serial => text(out, b" page 80"),
+            Page::Identification => text(out, b" page 83"),
         },
-        ReplyKind::ModeSense => text(b" mode sense"),
-        ReplyKind::Capacity => text(b" capacity"),
+        ReplyKind::ModeSense => text(out, b" mode sense"),
+        ReplyKind::Capacity => text(out, b" capacity"),
     }
 }
 
-fn blocks(block: u32, count: u16) {
-    word(block);
-    text(b" count");
-    half(count);
+fn blocks(out: &mut impl Write, block: u32, count: u16) -> io::Result<()> {
+    word(out, block)?;
+    text(out, b" count")?;
+    half(out, count)
 }
 
-fn show(plan: Plan) {
+fn show(out: &mut impl Write, plan: Plan) -> io::Result<()> {
     match plan {
         Plan::Failed(s) => {
-            text(b" failed");
-            sense(s);
+            text(out, b" failed")?;
+            sense(out, s)
         }
-        Plan::Nothing => text(b" nothing"),
+        Plan::Nothing => text(out, b" nothing"),
         Plan::Reply { kind, size } => {
-            text(b" reply");
-            reply(kind);
-            hex(size);
+            text(out, b" reply")?;
+            reply(out, kind)?;
+            hex(out, size)
         }
         Plan::Read { block, count } => {
-            text(b" read");
-            blocks(block, count);
+            text(out, b" read")?;
+            blocks(out, block, count)
         }
         Plan::Write { block, count } => {
-            text(b" write");
-            blocks(block, count);
+            text(out, b" write")?;
+            blocks(out, block, count)
         }
     }
 }
 
 // A command block's bytes, how many of them its code needs, and the plan.
-fn planned(s: &[u8], protected: bool) {
+fn planned(out: &mut impl Write, s: &[u8], protected: bool) -> io::Result<()> {
     if protected {
-        text(b"protected, ");
+        text(out, b"protected, ")?;
     }
-    text(b"block");
-    bytes(s, s.len());
-    text(b": needs");
-    hex(block_length(byte(s, 0)));
-    text(b",");
-    show(plan_of(s, 128, protected));
-    end();
+    text(out, b"block")?;
+    bytes(out, s, s.len())?;
+    text(out, b": needs")?;
+    hex(out, block_length(byte(s, 0)))?;
+    text(out, b",")?;
+    show(out, plan_of(s, 128, protected))?;
+    end(out)
 }
 
 // Ten bytes, written as two numbers.
-fn block_on(front: u64, back: u16, protected: bool) {
+fn block_on(out: &mut impl Write, front: u64, back: u16, protected: bool) -> io::Result<()> {
     let mut s = [0; 10];
     put_u64(&mut s, front);
     put_be16(&mut s, 8, back);
-    planned(&s, protected);
+    planned(out, &s, protected)
 }
 
-fn block(front: u64, back: u16) {
-    block_on(front, back, false);
+fn block(out: &mut impl Write, front: u64, back: u16) -> io::Result<()> {
+    block_on(out, front, back, false)
 }
 
-fn protected_block(front: u64, back: u16) {
-    block_on(front, back, true);
+fn protected_block(out: &mut impl Write, front: u64, back: u16) -> io::Result<()> {
+    block_on(out, front, back, true)
 }
 
 // Read 127 count 1, 128 count 0, 128 count 1, FFFFFFFF count 1, 0 count 1 with flag bit 5; Write 126 count 2; Verify 0 count 128; Read
 // 120 count 10, Write 127 count 2, Verify 129 count 0.
-fn ranges() {
-    block(0x2800_0000_007F_0000, 0x0100);
-    block(0x2800_0000_0080_0000, 0x0000);
-    block(0x2800_0000_0080_0000, 0x0100);
-    block(0x2800_FFFF_FFFF_0000, 0x0100);
-    block(0x2820_0000_0000_0000, 0x0100);
-    block(0x2A00_0000_007E_0000, 0x0200);
-    block(0x2F00_0000_0000_0000, 0x8000);
-    block(0x2800_0000_0078_0000, 0x0A00);
-    block(0x2A00_0000_007F_0000, 0x0200);
-    block(0x2F00_0000_0081_0000, 0x0000);
+fn ranges(out: &mut impl Write) -> io::Result<()> {
+    block(out, 0x2800_0000_007F_0000, 0x0100)?;
+    block(out, 0x2800_0000_0080_0000, 0x0000)?;
+    block(out, 0x2800_0000_0080_0000, 0x0100)?;
+    block(out, 0x2800_FFFF_FFFF_0000, 0x0100)?;
+    block(out, 0x2820_0000_0000_0000, 0x0100)?;
+    block(out, 0x2A00_0000_007E_0000, 0x0200)?;
+    block(out, 0x2F00_0000_0000_0000, 0x8000)?;
+    block(out, 0x2800_0000_0078_0000, 0x0A00)?;
+    block(out, 0x2A00_0000_007F_0000, 0x0200)?;
+    block(out, 0x2F00_0000_0081_0000, 0x0000)
 }
 
 // Test Unit Ready; Prevent/Allow, allow and prevent; Inquiry of 5 and of 36 bytes, Request Sense of 18, Mode Sense of 192; Read
 // Capacity; an unknown code, in a block of one byte.
-fn others() {
-    block(0x0000_0000_0000_0000, 0x0000);
-    block(0x1E00_0000_0000_0000, 0x0000);
-    block(0x1E00_0000_0100_0000, 0x0000);
-    block(0x1200_0000_0500_0000, 0x0000);
-    block(0x1200_0000_2400_0000, 0x0000);
-    block(0x0300_0000_1200_0000, 0x0000);
-    block(0x1A00_3F00_C000_0000, 0x0000);
-    block(0x2500_0000_0000_0000, 0x0000);
-    planned(&[0xFF], false);
+fn others(out: &mut impl Write) -> io::Result<()> {
+    block(out, 0x0000_0000_0000_0000, 0x0000)?;
+    block(out, 0x1E00_0000_0000_0000, 0x0000)?;
+    block(out, 0x1E00_0000_0100_0000, 0x0000)?;
+    block(out, 0x1200_0000_0500_0000, 0x0000)?;
+    block(out, 0x1200_0000_2400_0000, 0x0000)?;
+    block(out, 0x0300_0000_1200_0000, 0x0000)?;
+    block(out, 0x1A00_3F00_C000_0000, 0x0000)?;
+    block(out, 0x2500_0000_0000_0000, 0x0000)?;
+    planned(out, &[0xFF], false)
 }
 
 // The control byte: LINK in Test Unit Ready's, NACA in Inquiry's, bit 1 in a Read's, LINK in one of a Read out of range; Read of block 7,
 // whose byte 5 is a part of the address; bits 3 to 7 in both lengths, with 07 in a byte past the first; an unknown code.
-fn control_bytes() {
-    block(0x0000_0000_0001_0000, 0x0000);
-    block(0x1200_0000_2404_0000, 0x0000);
-    block(0x2800_0000_0000_0000, 0x0102);
-    block(0x2800_0000_0080_0000, 0x0101);
-    block(0x2800_0000_0007_0000, 0x0100);
-    block(0x0000_0000_00F8_0000, 0x0007);
-    block(0x2500_0000_0000_0000, 0x00F8);
-    block(0x0F00_0000_0007_0000, 0x0007);
+fn control_bytes(out: &mut impl Write) -> io::Result<()> {
+    block(out, 0x0000_0000_0001_0000, 0x0000)?;
+    block(out, 0x1200_0000_2404_0000, 0x0000)?;
+    block(out, 0x2800_0000_0000_0000, 0x0102)?;
+    block(out, 0x2800_0000_0080_0000, 0x0101)?;
+    block(out, 0x2800_0000_0007_0000, 0x0100)?;
+    block(out, 0x0000_0000_00F8_0000, 0x0007)?;
+    block(out, 0x2500_0000_0000_0000, 0x00F8)?;
+    block(out, 0x0F00_0000_0007_0000, 0x0007)
 }
 
 // Allocation lengths: Inquiry of 256, of 261 (byte 4 is 5), of 65,535, of 35 and of none; Request Sense and Mode Sense with byte 3 at 1,
 // which is no part of theirs.
-fn allocation_lengths() {
-    block(0x1200_0001_0000_0000, 0x0000);
-    block(0x1200_0001_0500_0000, 0x0000);
-    block(0x1200_00FF_FF00_0000, 0x0000);
-    block(0x1200_0000_2300_0000, 0x0000);
-    block(0x1200_0000_0000_0000, 0x0000);
-    block(0x0300_0001_0400_0000, 0x0000);
-    block(0x1A00_3F01_0300_0000, 0x0000);
+fn allocation_lengths(out: &mut impl Write) -> io::Result<()> {
+    block(out, 0x1200_0001_0000_0000, 0x0000)?;
+    block(out, 0x1200_0001_0500_0000, 0x0000)?;
+    block(out, 0x1200_00FF_FF00_0000, 0x0000)?;
+    block(out, 0x1200_0000_2300_0000, 0x0000)?;
+    block(out, 0x1200_0000_0000_0000, 0x0000)?;
+    block(out, 0x0300_0001_0400_0000, 0x0000)?;
+    block(out, 0x1A00_3F01_0300_0000, 0x0000)
 }
 
 // Product pages: each whole, page 80 cut by a byte, page 83 of 256, page 00 of none, page 80 with every ignored bit of byte 1 set; a page
 // that is not served, of 255 and of none; byte 2 without EVPD; NACA.
-fn product_pages() {
-    block(0x1201_0000_FF00_0000, 0x0000);
-    block(0x1201_8000_FF00_0000, 0x0000);
-    block(0x1201_8300_FF00_0000, 0x0000);
-    block(0x1201_8000_0F00_0000, 0x0000);
-    block(0x1201_8301_0000_0000, 0x0000);
-    block(0x1201_0000_0000_0000, 0x0000);
-    block(0x12FF_8000_1000_0000, 0x0000);
-    block(0x1201_8100_FF00_0000, 0x0000);
-    block(0x1201_8100_0000_0000, 0x0000);
-    block(0x1200_8000_FF00_0000, 0x0000);
-    block(0x1201_8000_FF04_0000, 0x0000);
+fn product_pages(out: &mut impl Write) -> io::Result<()> {
+    block(out, 0x1201_0000_FF00_0000, 0x0000)?;
+    block(out, 0x1201_8000_FF00_0000, 0x0000)?;
+    block(out, 0x1201_8300_FF00_0000, 0x0000)?;
+    block(out, 0x1201_8000_0F00_0000, 0x0000)?;
+    block(out, 0x1201_8301_0000_0000, 0x0000)?;
+    block(out, 0x1201_0000_0000_0000, 0x0000)?;
+    block(out, 0x12FF_8000_1000_0000, 0x0000)?;
+    block(out, 0x1201_8100_FF00_0000, 0x0000)?;
+    block(out, 0x1201_8100_0000_0000, 0x0000)?;
+    block(out, 0x1200_8000_FF00_0000, 0x0000)?;
+    block(out, 0x1201_8000_FF04_0000, 0x0000)
 }
 
 // The write switch is closed: Write 126 count 2, 0 count 0, 128 count 0; Write 127 count 2 and 129 count 0, which are out of range; Write 0
 // count 1 with flag bit 5, and 127 count 2 with it; Write 0 count 1 with NACA. Of the others Read 127 count 1, Verify 0 count 128, Test
 // Unit Ready, Mode Sense of 192.
-fn write_protected() {
-    protected_block(0x2A00_0000_007E_0000, 0x0200);
-    protected_block(0x2A00_0000_0000_0000, 0x0000);
-    protected_block(0x2A00_0000_0080_0000, 0x0000);
-    protected_block(0x2A00_0000_007F_0000, 0x0200);
-    protected_block(0x2A00_0000_0081_0000, 0x0000);
-    protected_block(0x2A20_0000_0000_0000, 0x0100);
-    protected_block(0x2A20_0000_007F_0000, 0x0200);
-    protected_block(0x2A00_0000_0000_0000, 0x0104);
-    protected_block(0x2800_0000_007F_0000, 0x0100);
-    protected_block(0x2F00_0000_0000_0000, 0x8000);
-    protected_block(0x0000_0000_0000_0000, 0x0000);
-    protected_block(0x1A00_3F00_C000_0000, 0x0000);
+fn write_protected(out: &mut impl Write) -> io::Result<()> {
+    protected_block(out, 0x2A00_0000_007E_0000, 0x0200)?;
+    protected_block(out, 0x2A00_0000_0000_0000, 0x0000)?;
+    protected_block(out, 0x2A00_0000_0080_0000, 0x0000)?;
+    protected_block(out, 0x2A00_0000_007F_0000, 0x0200)?;
+    protected_block(out, 0x2A00_0000_0081_0000, 0x0000)?;
+    protected_block(out, 0x2A20_0000_0000_0000, 0x0100)?;
+    protected_block(out, 0x2A20_0000_007F_0000, 0x0200)?;
+    protected_block(out, 0x2A00_0000_0000_0000, 0x0104)?;
+    protected_block(out, 0x2800_0000_007F_0000, 0x0100)?;
+    protected_block(out, 0x2F00_0000_0000_0000, 0x8000)?;
+    protected_block(out, 0x0000_0000_0000_0000, 0x0000)?;
+    protected_block(out, 0x1A00_3F00_C000_0000, 0x0000)
 }
 
-pub(crate) fn run() {
-    ranges();
-    others();
-    control_bytes();
-    allocation_lengths();
-    product_pages();
-    write_protected();
+pub(crate) fn run(out: &mut impl Write) -> io::Result<()> {
+    ranges(out)?;
+    others(out)?;
+    control_bytes(out)?;
+    allocation_lengths(out)?;
+    product_pages(out)?;
+    write_protected(out)
 }

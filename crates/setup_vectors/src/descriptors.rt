@@ -1,5 +1,7 @@
 // The descriptors of document 01.
 use crate::print::line;
+use std::io;
+use std::io::Write;
 use usb::descriptor::{Descriptor, Identity, descriptor_bytes};
 
 fn numbered(number: u64) -> Identity {
@@ -11,19 +13,23 @@ fn numbered(number: u64) -> Identity {
     }
 }
 
-fn serial(name: &[u8], number: u64) {
-    line(name, descriptor_bytes(Descriptor::Serial, numbered(number)));
+fn serial(out: &mut impl Write, name: &[u8], number: u64) -> io::Result<()> {
+    line(
+        out,
+        name,
+        descriptor_bytes(Descriptor::Serial, numbered(number)),
+    )
 }
 
-fn fixed(name: &[u8], which: Descriptor) {
-    line(name, descriptor_bytes(which, numbered(42)));
+fn fixed(out: &mut impl Write, name: &[u8], which: Descriptor) -> io::Result<()> {
+    line(out, name, descriptor_bytes(which, numbered(42)))
 }
 
-pub(crate) fn run() {
-    serial(b"serial 42:", 42);
-    serial(b"serial 0:", 0);
-    serial(b"serial 999999999999:", 999999999999);
-    fixed(b"device 0000 0000 0100:", Descriptor::Device);
+pub(crate) fn run(out: &mut impl Write) -> io::Result<()> {
+    serial(out, b"serial 42:", 42)?;
+    serial(out, b"serial 0:", 0)?;
+    serial(out, b"serial 999999999999:", 999999999999)?;
+    fixed(out, b"device 0000 0000 0100:", Descriptor::Device)?;
     // numbers that show their byte order and their places
     let other = Identity {
         number: 42,
@@ -32,11 +38,12 @@ pub(crate) fn run() {
         release: 0x9ABC,
     };
     line(
+        out,
         b"device 1234 5678 9ABC:",
         descriptor_bytes(Descriptor::Device, other),
-    );
-    fixed(b"configuration:", Descriptor::Configuration);
-    fixed(b"languages:", Descriptor::Languages);
-    fixed(b"vendor:", Descriptor::Vendor);
-    fixed(b"product:", Descriptor::Product);
+    )?;
+    fixed(out, b"configuration:", Descriptor::Configuration)?;
+    fixed(out, b"languages:", Descriptor::Languages)?;
+    fixed(out, b"vendor:", Descriptor::Vendor)?;
+    fixed(out, b"product:", Descriptor::Product)
 }

@@ -6,7 +6,10 @@ mod descriptors;
 mod print;
 mod requests;
 
-fn main() {
-    descriptors::run();
-    requests::run();
+use std::io;
+
+fn main(rt: HostRuntime) -> io::Result<()> {
+    let mut out = rt.stdout();
+    descriptors::run(&mut out)?;
+    requests::run(&mut out)
 }
