@@ -1,15 +1,33 @@
 // The bench: reads a recording from standard input, plays it, writes what is printed to standard output.
 #![tactic(auto)]
 
-use libc::{STDIN_FILENO, STDOUT_FILENO};
-use player::play::{MEDIUM, ROOM, play};
+ghost use Rattle.std.specs.Io.{ReadsAtMost};
 
-fn main() {
+use player::play::{MEDIUM, ROOM, play};
+use std::io;
+use std::io::{Read, Write};
+
+// Reads until buf is full or the input ends, and returns how many bytes it put at the start of buf.
+fn read_full(from: &mut impl Read, buf: &mut [u8]) -> io::Result<usize>
+    ensures { ReadsAtMost result buf.new }
+{
+    let mut done = 0;
+    while done < buf.len() {
+        let n = from.read(&mut buf[done..])?;
+        if n == 0 {
+            break;
+        }
+        done += n;
+    }
+    Ok(done)
+}
+
+fn main(rt: HostRuntime) -> io::Result<()> {
     // One byte more than a recording may have, so that a longer input is seen to be longer.
     let mut input = [0; 16385];
     let mut medium = [0; MEDIUM];
     let mut text = [0; ROOM];
-    let got = io::read_full(STDIN_FILENO, &mut input);
+    let got = read_full(&mut rt.stdin(), &mut input)?;
     let end = play(&input[..got], &mut medium, &mut text);
-    io::write_all(STDOUT_FILENO, &text[..end]);
+    rt.stdout().write_all(&text[..end])
 }
