@@ -75,7 +75,7 @@ module _ (s m₀ t₀ : List ℕ) (n : ℕ) (start : Turn) where
         let left : 0 < n - done = omega arith in
         let told = subst (λ (y : List ℕ). Turned (step (world_of turn m) (event_of r.kind (take r.len (drop b y)))) (done + 1) t turn.at t' m' turn') q said in
         let next = subst (λ (k : ℕ). So-far start.units.count s (whole s m₀ n start) t₀ start.at (world_of turn' m') t' turn'.at k r.entry r.body (done + 1 + 1)) one_less
-            (go_on start.units.count s (whole s m₀ n start) t₀ start.at (world_of turn m) t turn.at (n - done) e b (done + 1) r m' t' turn' w f left told) in
+        (go_on start.units.count s (whole s m₀ n start) t₀ start.at (world_of turn m) t turn.at (n - done) e b (done + 1) r m' t' turn' w f left told) in
         subst (λ (y : ℕ). Ran turn' m' t' (done + 1) y b') (sym p) (subst (λ (y : ℕ). Ran turn' m' t' (done + 1) r.entry y) (sym o) next)
 
     pub finished : n ≤ done → (Wrote t₀ start.at (lines 1 (whole s m₀ n start).replies) t turn.at) × (m ≡ (whole s m₀ n start).world.medium) × (turn.at ≤ length t₀)

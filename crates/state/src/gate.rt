@@ -23,6 +23,7 @@ pub struct Served {
     pub state: State,
 }
 
+#[tactic(auto, unfolding(machine::specs::Machine::in_order, machine::specs::Machine::check))]
 pub fn admit(checks: Checks) -> Verdict
     ensures { admission result ≡ admission (in_order checks) }
 {
