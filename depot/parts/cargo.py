@@ -21,7 +21,7 @@ def peer(wrong):
         return build("peer", "wrong", "--features", "wrong")
     archive = os.path.abspath(os.environ.get("COLLECTOR_LIB_DIR") or os.path.join(os.path.dirname(DEPOT), "crates", "capi", "out"))
     if not os.path.exists(os.path.join(archive, "libcapi.a")):
-        raise SystemExit("depot: no libcapi.a in %s: make it with 'cd crates/capi && rt lib' (COLLECTOR_LIB_DIR names another folder)" % archive)
+        raise SystemExit("depot: no libcapi.a in %s: make it with 'cd crates/capi && rt lib --cpu x86-64' (COLLECTOR_LIB_DIR names another folder)" % archive)
     return build("peer", "archive", COLLECTOR_LIB_DIR=archive)
 
 

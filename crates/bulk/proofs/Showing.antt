@@ -2,13 +2,11 @@
 use Prim.Native.Nat.{ℕ, ◌+◌, ◌≤◌, ◌<◌}
 use mathlib.Core.Path.{◌≡◌, refl, sym, ap, ◌∙◌}
 use mathlib.Core.Bool.{Bool, true}
-use mathlib.Core.List.{List, [], ◌∷◌}
-use mathlib.Core.Logic.{inl, inr}
+use mathlib.Core.List.{List, []}
 use native.Mathlib.Omega.{arith}
 use lib.Dec.{leb}
 use lib.ListN.{length, take, length-take}
 use lib.Seq.{take_all}
-use denote.Enum.Declared.{tag_of}
 use Rattle.wire.specs.Slices.{placed}
 use Rattle.wire.specs.Packet.{packet_of}
 use Rattle.wire.specs.declared.packet.Packet.{Packet}
@@ -23,7 +21,6 @@ use Rattle.machine.specs.declared.checks.Verdict.TheVariants.{Passes, Refuses}
 use Rattle.machine.specs.declared.record.Stage.{Stage}
 use Rattle.machine.specs.declared.record.Stage.TheVariants.{Ready, DataOut, DataIn, ReplyIn, StatusDue}
 use Rattle.machine.specs.declared.show.Extent.TheVariants as extent
-use Rattle.machine.specs.contracts.record.Stage as stage
 use Rattle.machine.specs.World.{World, out, sends}
 use Rattle.machine.specs.Machine.{fitting, in_order}
 use Rattle.machine.specs.Bulk.{ask}

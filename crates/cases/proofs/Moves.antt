@@ -14,7 +14,7 @@ use Rattle.cases.specs.declared.Pipe.TheVariants as pipe
 use Rattle.cases.specs.declared.Ending.TheVariants.{Command}
 use Rattle.cases.specs.declared.Halt.{Halt}
 use Rattle.cases.specs.Cases.{plain, same_way, counted, meeting, case_of}
-use Rattle.cases.specs.Claims.{amount, is_after_data, after_data, Follows, no_data_lem, no_match, all_in, all_out, CasesFollow}
+use Rattle.cases.specs.Claims.{amount, is_after_data, after_data, Follows, nothing_moves, no_match, all_in, all_out, CasesFollow}
 
 same_way_lem : (p : Pipe) (host has : ℕ) (t : Transfer) → (has ≤ host → Follows host has (plain t (after_data p host has))) → Follows host has (same_way p host has t)
 unfolding same_way after_data is_after_data
@@ -26,13 +26,13 @@ same_way_lem p host has t f =
 
 meets : (host has : Transfer) → Follows (amount host) (amount has) (meeting host has)
 unfolding meeting is_after_data
-meets None None = no_data_lem refl
+meets None None = nothing_moves refl
 meets None (In d) = no_match refl
 meets None (Out d) = no_match refl
-meets (In h) None = no_data_lem refl
+meets (In h) None = nothing_moves refl
 meets (In h) (In d) = same_way_lem _ h d (In d) all_in
 meets (In h) (Out d) = no_match refl
-meets (Out h) None = no_data_lem refl
+meets (Out h) None = nothing_moves refl
 meets (Out h) (In d) = no_match refl
 meets (Out h) (Out d) = same_way_lem _ h d (Out d) all_out
 

@@ -26,7 +26,7 @@ after_data p announced has = when ltb has announced then halt.AfterData p else h
 
 -- No data moves, and no halt waits for its end; or all of the device's data, which is no more than announced.
 pub data Follows (announced has : ℕ) : Case → Type 0 where
-  no_data_lem : {h : Halt} → is_after_data h ≡ false → Follows announced has (plain None h)
+  nothing_moves : {h : Halt} → is_after_data h ≡ false → Follows announced has (plain None h)
   no_match : {h : Halt} → is_after_data h ≡ false → Follows announced has (phase_error h)
   all_in : has ≤ announced → Follows announced has (plain (In has) (after_data pipe.In announced has))
   all_out : has ≤ announced → Follows announced has (plain (Out has) (after_data pipe.Out announced has))

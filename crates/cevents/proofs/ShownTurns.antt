@@ -1,7 +1,7 @@
 -- A showing call on C's numbers, and the record's reply: refused, and decoded. Assumes nothing.
 use Prim.Native.Nat.{ℕ, ◌<◌}
 use mathlib.Core.Path.{◌≡◌, refl, sym, ap, ◌∙◌}
-use mathlib.Core.Bool.{Bool, true, false}
+use mathlib.Core.Bool.{true, false}
 use mathlib.Core.List.{List}
 use native.Mathlib.Omega.{arith}
 use lib.Dec.{leb}
@@ -20,8 +20,8 @@ use Rattle.machine.specs.Answer.{number_of, count_of}
 use Rattle.machine.specs.Units.{Table}
 use Rattle.machine.specs.Record.{device}
 use Rattle.machine.specs.World.{World, world, Out, out}
-use Rattle.machine.specs.Machine.{Told, told, check, in_order, judged}
-use Rattle.machine.specs.Show.{show_checks, Shown, shown, show_judged, show, ToldShown, told_shown, reply_checks, give_reply}
+use Rattle.machine.specs.Machine.{told, check, in_order, judged}
+use Rattle.machine.specs.Show.{show_checks, Shown, shown, show_judged, show, told_shown, reply_checks, give_reply}
 use Rattle.units.specs.declared.table.Units.{Units}
 use Rattle.units.specs.Held.{table_of}
 use Rattle.units.proofs.Held.{length-table}

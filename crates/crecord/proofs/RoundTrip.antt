@@ -134,7 +134,7 @@ stage_again : (n : Numbers) → (form_of n.stage).has n ≡ true → numbers_of 
 unfolding form_of numbers_of no_numbers no_value is_position is_page
 stage_again n =
     look_keyed P forms n.stage no_form
-    (no-transfer, (no_extra, (no_value_lem, (sense, (no_value_lem, (mode, (no_extra, (no-transfer, (no-transfer, (no-transfer, (page, tt)))))))))))
+    (no-transfer, (no_extra, (no_number, (sense, (no_number, (mode, (no_extra, (no-transfer, (no-transfer, (no-transfer, (page, tt)))))))))))
     (λ h. let z : ◌≡◌ {A = ℕ} 0 1 = cc in absurd (omega arith))
   where
     P : Form → Type 0
@@ -149,8 +149,8 @@ stage_again n =
     no_extra : {k : ℕ} → n.stage ≡ k → three n ≡ true → numbers k n.place n.left n.value 0 ≡ n
     no_extra e h = at e refl (zero _ h)
 
-    no_value_lem : {k : ℕ} → n.stage ≡ k → two n ≡ true → numbers k n.place n.left 0 0 ≡ n
-    no_value_lem e h = let b = both _ _ h in at e (zero _ b.0) (zero _ b.1)
+    no_number : {k : ℕ} → n.stage ≡ k → two n ≡ true → numbers k n.place n.left 0 0 ≡ n
+    no_number e h = let b = both _ _ h in at e (zero _ b.0) (zero _ b.1)
 
     sense : n.stage ≡ 3 → ltb n.value (256 ^ 3) ≡ true → numbers 3 n.place n.left (sense_number (sense_from n.value n.extra)) (sense_from n.value n.extra).information ≡ n
     sense e h = at e (sense_again n.value n.extra (ltb-true _ _ h)) (information_again n.value n.extra)

@@ -6,7 +6,6 @@ use native.Mathlib.Omega.{arith}
 use native.Mathlib.Nat.{add-zero}
 use lib.Dec.{leb, lit<}
 use borrow.Author.Tests.{leb-false}
-use Rattle.wire.specs.Choice.{◌and◌}
 use Rattle.wire.specs.Numbers.{value}
 use Rattle.wire.specs.Slices.{Below, bytes_at}
 use Rattle.wire.proofs.Cases.{by-if}

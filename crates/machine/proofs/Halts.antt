@@ -12,7 +12,7 @@ use Rattle.wire.proofs.Cases.{by-if, if-true, if-false}
 use Rattle.scsi.specs.declared.command.Plan.{Plan}
 use Rattle.scsi.specs.declared.command.Plan.TheVariants.{Failed, Nothing, Reply, Read, Write}
 use Rattle.bot.specs.declared.csw.Status.TheVariants.{Passed}
-use Rattle.cases.specs.Claims.{amount, is_after_data, after_data, Follows, no_data_lem, no_match, all_in, all_out}
+use Rattle.cases.specs.Claims.{amount, is_after_data, after_data, Follows, nothing_moves, no_match, all_in, all_out}
 use Rattle.cases.specs.declared.Case.{Case}
 use Rattle.cases.specs.declared.Halt.{Halt}
 use Rattle.cases.specs.declared.Halt.TheVariants as halt
@@ -58,7 +58,7 @@ after x a n = by-if (λ (h : Halt). is_after_data h ≡ ltb n a) (ltb n a) (halt
 by_case : (p : Plan) (u : LogicalUnit) (a : ℕ) (c : Case) → Follows a (amount (has_of p)) c → moves c.moves ≡ true
     → is_after_data c.halt ≡ ltb 0 (a - due (staged c.ending c.moves p u))
 unfolding staged first_stage moves
-by_case p u a c (no_data_lem e) q = absurd (true≢false (sym q))
+by_case p u a c (nothing_moves e) q = absurd (true≢false (sym q))
 by_case p u a c (no_match e) q = absurd (true≢false (sym q))
 by_case p u a c (all_in l) q = after _ a (amount (has_of p)) ∙ over a (amount (has_of p)) ∙ ap (λ (n : ℕ). ltb 0 (a - n)) (sym (data_due p u))
 by_case p u a c (all_out l) q = after _ a (amount (has_of p)) ∙ over a (amount (has_of p)) ∙ ap (λ (n : ℕ). ltb 0 (a - n)) (sym (data_due p u))

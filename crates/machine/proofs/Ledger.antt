@@ -36,7 +36,7 @@ use Rattle.machine.specs.declared.answer.Answer.{Answer}
 use Rattle.machine.specs.declared.answer.Answer.TheVariants.{Data, Ack, Nak, Stall, Silent, Refused}
 use Rattle.machine.specs.Answer.{count_of}
 use Rattle.machine.specs.Units.{block_size, unit_at, part_of, with_part}
-use Rattle.machine.specs.Record.{task, no_task, fresh, with_halts, dropped_state, with_address, moved}
+use Rattle.machine.specs.Record.{no_task, fresh, with_halts, dropped_state, with_address, moved}
 use Rattle.machine.specs.Fits.{in_fits, stage_fits}
 use Rattle.machine.specs.World.{World, world, in_state, dropped, Out, out, sends, UnitOut, in_unit}
 use Rattle.machine.specs.Wrapper.{wrapper_of}
@@ -49,7 +49,7 @@ use Rattle.machine.specs.Tally.{Making, Block, Tally, idle, writing, Log, turned
 use Rattle.machine.specs.Claim.{born, lived, is_drop, ends}
 use Rattle.machine.specs.Beside.{is_quiet}
 use Rattle.machine.specs.Halts.{due}
-use Rattle.machine.specs.Ledger.{Command, Status, command_of, status_of, arrived_with, Book, book, counting, took_packet, gave_packet, entered, Account, booked, opened, ledger, Paid, Balanced, IsBytes, AllBytes, Ledger}
+use Rattle.machine.specs.Ledger.{Command, command_of, status_of, arrived_with, Book, book, counting, took_packet, gave_packet, entered, Account, booked, opened, ledger, Paid, Balanced, IsBytes, AllBytes, Ledger}
 use Rattle.machine.proofs.Judge.{Passed as Checked, judge, fit_passed, in-medium, in-room}
 use Rattle.machine.proofs.Requests.{Did, stalls, acks, halts, addresses, configures, resets, performs}
 use Rattle.machine.proofs.Requests as requests

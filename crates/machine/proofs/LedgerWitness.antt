@@ -1,5 +1,5 @@
 -- The closed history of specs/LedgerWitness.antt, computed by the checker. Assumes nothing.
-use Prim.Native.Nat.{ℕ, ◌<◌}
+use Prim.Native.Nat.{ℕ}
 use mathlib.Core.Path.{◌≡◌, refl}
 use mathlib.Core.Bool.{Bool, true}
 use mathlib.Core.List.{List, [], ◌∷◌}
@@ -21,21 +21,21 @@ below : List ℕ → Bool
 below [] = true
 below (x ∷ s) = ltb x 256 and below s
 
-all_below_lem : List Event → Bool
-all_below_lem [] = true
-all_below_lem (bus_reset ∷ es) = all_below_lem es
-all_below_lem (control s b ∷ es) = all_below_lem es
-all_below_lem (bulk_out p ∷ es) = below p and all_below_lem es
-all_below_lem (bulk_in b ∷ es) = all_below_lem es
-all_below_lem (set_switch x n ∷ es) = all_below_lem es
+all_below : List Event → Bool
+all_below [] = true
+all_below (bus_reset ∷ es) = all_below es
+all_below (control s b ∷ es) = all_below es
+all_below (bulk_out p ∷ es) = below p and all_below es
+all_below (bulk_in b ∷ es) = all_below es
+all_below (set_switch x n ∷ es) = all_below es
 
 of_bytes : (s : List ℕ) → below s ≡ true → Below 256 s
 unfolding below Every
 of_bytes [] h = tt
 of_bytes (x ∷ s) h = (ltb-true x 256 (both _ _ h).0, of_bytes s (both _ _ h).1)
 
-all-bytes : (es : List Event) → all_below_lem es ≡ true → AllBytes es
-unfolding all_below_lem AllBytes
+all-bytes : (es : List Event) → all_below es ≡ true → AllBytes es
+unfolding all_below AllBytes
 all-bytes [] h = tt
 all-bytes (bus_reset ∷ es) h = (tt, all-bytes es h)
 all-bytes (control s b ∷ es) h = (tt, all-bytes es h)
@@ -46,5 +46,5 @@ all-bytes (set_switch x n ∷ es) h = (tt, all-bytes es h)
 -- ---- the history
 
 pub ledger-kept : LedgerKept
-unfolding computes parts cbw test_unit_ready on_blocks configure cleared sent hands stalls events due told is_status counting arrived_with took_packet gave_packet entered booked ledger settles reset short_read cut_write phase_error cut_read afterwards story below all_below_lem
+unfolding computes parts cbw test_unit_ready on_blocks configure cleared sent hands stalls events due told is_status counting arrived_with took_packet gave_packet entered booked ledger settles reset short_read cut_write phase_error cut_read afterwards story below all_below
 ledger-kept = record { makes = refl; bytes = all-bytes _ refl; replies = refl; first = refl; second = refl; third = refl; last = refl }

@@ -23,7 +23,7 @@ use Rattle.cases.specs.declared.Case.{Case}
 use Rattle.bot.specs.declared.cbw.Header.{Header}
 use Rattle.bot.specs.declared.csw.Status.{Status}
 use Rattle.bot.specs.declared.csw.Status.TheVariants as status
-use Rattle.cases.specs.Claims.{amount, Follows, no_data_lem, no_match, all_in, all_out}
+use Rattle.cases.specs.Claims.{amount, Follows, nothing_moves, no_match, all_in, all_out}
 use Rattle.cases.proofs.Moves.{cases_follow}
 use Rattle.usb.specs.Request.{request_of}
 use Rattle.usb.proofs.Addresses.{address-low}
@@ -82,7 +82,7 @@ data_fits n (Write block count) u a f h =
 case_fits : (n : ℕ) (p : Plan) (u : LogicalUnit) (a : ℕ) (c : Case) → PlanFits n p → Follows a (amount (has_of p)) c
     → stage_fits n (staged c.ending c.moves p u) a a ≡ true
 unfolding stage_fits staged first_stage out_fits in_fits
-case_fits n p u a c f (no_data_lem e) = same-le a
+case_fits n p u a c f (nothing_moves e) = same-le a
 case_fits n p u a c f (no_match e) = same-le a
 case_fits n p u a c f (all_in h) = data_fits n p u a f h
 case_fits n p u a c f (all_out h) = data_fits n p u a f h

@@ -24,9 +24,9 @@ pub switch_closed : SwitchClosed
 unfolding computes parts cbw on_blocks closed_write
 switch_closed = record { acked = refl; configured = refl; closed = refl; none = refl; recovers = refl; medium = refl; keeps = refl; anew = refl }
 
-pub write-cut_there : WriteCutThere
+pub write_cut_there : WriteCutThere
 unfolding computes parts cbw on_blocks part_write_there
-write-cut_there = record {
+write_cut_there = record {
   cut = record { makes = refl; acked = refl; configured = refl; held = refl; recovers = refl; arrived = refl; medium = refl };
   closed = refl;
   opened = refl;

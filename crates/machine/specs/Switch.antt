@@ -9,7 +9,7 @@ use Rattle.machine.specs.Fits.{is_ready}
 use Rattle.machine.specs.World.{World, switched, Out, out}
 use Rattle.machine.specs.Machine.{Event, bus_reset, control, bulk_out, bulk_in, set_switch, fitting, step}
 use Rattle.machine.specs.Claim.{setup}
-use Rattle.machine.specs.Sheet.{Exchange, Row, row, cbw, on_blocks, answered, buffer, configure, cleared, sent, command_in, command, hands, status, senses, outside_data, Hold}
+use Rattle.machine.specs.Sheet.{Exchange, Row, row, cbw, on_blocks, answered, buffer, configure, cleared, sent, command_in, hands, status, senses, outside_data, Hold}
 use Rattle.machine.specs.RefusedBlock.{no_data}
 
 -- ---- every step

@@ -2,15 +2,15 @@
 use Prim.Native.Nat.{ℕ, zero, suc, ◌+◌, ◌*◌, ◌-◌, ◌/◌, ◌%◌, ◌≤◌, ◌<◌}
 use mathlib.Core.Path.{◌≡◌, refl, sym, ap, ap₂, subst, ◌∙◌}
 use mathlib.Core.Bool.{Bool, true, false}
-use mathlib.Core.List.{List, [], ◌∷◌, ◌++◌, append_assoc, append-nil}
+use mathlib.Core.List.{List, [], ◌∷◌, ◌++◌}
 use native.Mathlib.Omega.{arith}
-use native.Mathlib.Nat.{add_assoc, add-zero}
+use native.Mathlib.Nat.{add-zero}
 use native.Mathlib.Numerals.{add-one}
 use lib.Dec.{ltb}
-use lib.ListN.{get_or, length, take, drop, length-append, length-drop, drop_of_length-le, take-append-drop}
-use lib.Seq.{take_all, take-suc, drop-append-le, take_at, drop-drop, length-take-le, drop-append-add}
+use lib.ListN.{get_or, length, take, drop, length-append, length-drop}
+use lib.Seq.{take_all, take-suc}
 use Rattle.wire.specs.Slices.{placed, fits}
-use Rattle.wire.specs.Numbers.{decimal, low}
+use Rattle.wire.specs.Numbers.{decimal}
 use Rattle.wire.proofs.Lists.{length-placed, placed_more, placed-none}
 use Rattle.wire.proofs.Positional.{digits, last_digits}
 use Rattle.wire.proofs.Cases.{if-true, if-false, by-if}

@@ -5,7 +5,6 @@ use mathlib.Core.Bool.{true, false}
 use mathlib.Core.List.{List}
 use lib.ListN.{length, drop}
 use borrow.Author.Tests.{leb-true}
-use Rattle.wire.specs.Choice.{◌and◌}
 use Rattle.wire.proofs.Cases.{both, if-true, if-false}
 use Rattle.recording.specs.Format.{length_in, formed, events_in, count_of, table_of, bodies_of, is_formed, malformed, well_formed, parse}
 

@@ -6,7 +6,7 @@ use mathlib.Core.Bool.{Bool, true, false}
 use mathlib.Core.List.{List, [], ◌∷◌}
 use native.Mathlib.Omega.{arith}
 use borrow.Author.Tests.{leb-true, le-leb, lt-leb}
-use Rattle.wire.specs.Choice.{when◌then◌else◌, ◌and◌, look}
+use Rattle.wire.specs.Choice.{when◌then◌else◌, look}
 use Rattle.wire.specs.Bits.{bits, clear}
 use Rattle.wire.specs.Numbers.{big}
 use Rattle.wire.specs.Slices.{byte_at, bytes_at, zeros}

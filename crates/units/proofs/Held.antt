@@ -1,13 +1,13 @@
 -- A table by value and the lent table: laws of `table_of`, `held_of` and `put_back`. Assumes nothing.
 use Prim.Native.Nat.{ℕ, zero, suc, ◌+◌, ◌-◌, ◌≤◌, ◌<◌}
-use mathlib.Core.Path.{◌≡◌, refl, sym, ap, ◌∙◌, subst}
+use mathlib.Core.Path.{◌≡◌, refl, sym, ap, ◌∙◌}
 use mathlib.Core.Bool.{Bool, true, false}
-use mathlib.Core.List.{List, [], ◌∷◌, map}
+use mathlib.Core.List.{[], ◌∷◌, map}
 use native.Mathlib.Nat.{zero-add}
 use native.Mathlib.Omega.{arith}
-use lib.Dec.{eqb, leb}
+use lib.Dec.{eqb}
 use lib.Seq.{take_all}
-use lib.ListN.{length, take, get_or, set, replicate, length-take, length-replicate, get_or-eq_default}
+use lib.ListN.{length, take, set, replicate, length-take, length-replicate, get_or-eq_default}
 use borrow.Author.Tests.{le-ltb, leb-true}
 use Rattle.wire.specs.Choice.{when◌then◌else◌, ◌and◌}
 use Rattle.wire.proofs.Cases.{both}

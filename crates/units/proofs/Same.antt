@@ -6,11 +6,9 @@ use mathlib.Core.List.{[], ◌∷◌}
 use lib.ListN.{set}
 use lib.Seq.{set-get_or}
 use borrow.Author.Tests.{eqb-true}
-use Rattle.wire.specs.Choice.{◌and◌}
 use Rattle.wire.proofs.Cases.{both}
 use Rattle.scsi.specs.Sense.{no_sense, is_no_sense}
 use Rattle.scsi.specs.declared.sense.Sense.{Sense}
-use Rattle.machine.specs.declared.record.LogicalUnit.{LogicalUnit}
 use Rattle.machine.specs.Units.{Table, unit_at, with_sense, unsensed, cleared, with_switch, switched_to, every}
 use Rattle.units.specs.Held.{no_unit}
 

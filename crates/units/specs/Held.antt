@@ -1,5 +1,5 @@
 -- A table by value, and the lent table that it stands for.
-use Rattle.std.specs.Prelude.{ℕ, ◌+◌, ◌-◌, Bool, true, [], ◌∷◌, ltb, length, take, replicate, set}
+use Rattle.std.specs.Prelude.{ℕ, ◌+◌, ◌-◌, Bool, true, ◌∷◌, ltb, length, take, replicate, set}
 use Rattle.wire.specs.Choice.{when◌then◌else◌, ◌and◌}
 use Rattle.scsi.specs.Sense.{no_sense}
 use Rattle.machine.specs.declared.record.LogicalUnit.{LogicalUnit}

@@ -1,4 +1,4 @@
--- `read_full` meets its contract. The invariant: what is read lies within the buffer, whose length stays. Assumes nothing.
+-- The loop of `read_full`: what is read lies within the buffer, whose length stays.
 use Rattle.std.proofs.Common.{length, ◌-◌, ◌≡◌, ◌≤◌}
 use Rattle.replay.proofs.read_full.Given as goal
 

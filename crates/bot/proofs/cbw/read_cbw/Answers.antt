@@ -1,7 +1,6 @@
 -- `read_cbw` meets its contract. Assumes nothing.
 use Prim.Native.Nat.{ℕ}
-use mathlib.Core.Path.{◌≡◌, ap₂, ◌∙◌}
-use mathlib.Core.Bool.{true}
+use mathlib.Core.Path.{ap₂, ◌∙◌}
 use mathlib.Core.List.{List}
 use native.Mathlib.Omega.{arith}
 use lib.ListN.{length-drop}
@@ -9,7 +8,7 @@ use Rattle.wire.specs.Choice.{when◌then◌else◌}
 use Rattle.wire.specs.Slices.{zeros}
 use Rattle.wire.proofs.Lists.{placed-whole, tail_is}
 use Rattle.bot.specs.declared.cbw.Header.{Header}
-use Rattle.bot.specs.Cbw.{readable, header_of, zero_cbw, Reading, read_cbw}
+use Rattle.bot.specs.Cbw.{zero_cbw, Reading, read_cbw}
 use Rattle.bot.proofs.Wrappers.{readable_long, read-readable, not-readable}
 use Rattle.bot.proofs.cbw.read_cbw.Goals as goal
 

@@ -1,7 +1,6 @@
 -- `handed_state` meets its contract. Assumes nothing.
 use Rattle.machine.specs.Bulk.{handed_state}
 use mathlib.Core.Path.{sym}
-use Rattle.machine.specs.Record.{moved}
 use Rattle.bulk.proofs.ask.handed_state.Goals as goal
 
 pub returns : goal.returns

@@ -1,6 +1,5 @@
 -- `gathered_state` meets its contract. Assumes nothing.
 use Rattle.machine.specs.Bulk.{gathered_state}
-use Rattle.machine.specs.Record.{moved}
 use Rattle.bulk.proofs.outward.gathered_state.Goals as goal
 
 pub returns : goal.returns

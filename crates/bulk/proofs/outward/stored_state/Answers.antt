@@ -1,7 +1,6 @@
 -- `stored_state` meets its contract. Assumes nothing.
 use Rattle.machine.specs.Bulk.{stored_state}
 use mathlib.Core.Path.{sym}
-use Rattle.machine.specs.Record.{moved}
 use Rattle.bulk.proofs.outward.stored_state.Goals as goal
 
 pub returns : goal.returns

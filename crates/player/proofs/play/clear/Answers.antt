@@ -1,5 +1,5 @@
--- `clear` meets its contract. The invariant: i zeros, then what was there. Assumes nothing.
-use Prim.Native.Nat.{ℕ, ◌-◌}
+-- `clear` meets its contract. Assumes nothing.
+use Prim.Native.Nat.{ℕ}
 use mathlib.Core.Path.{◌≡◌, refl, ap, ◌∙◌}
 use mathlib.Core.List.{List, ◌++◌, append-nil}
 use native.Mathlib.Omega.{arith}
@@ -13,16 +13,14 @@ pub loop-i-init : goal.loop-i-init
 loop-i-init c = (omega arith, (refl, refl))
 
 pub loop-i-preserved : goal.loop-i-preserved
-loop-i-preserved c = let l = c in
-    let v = l.loop-i.invariant in
-    (omega arith, (simp length-set (omega arith), ap (λ (s : List ℕ). set s l.loop-i.i 0) v.1.1 ∙ fill_more l.loop-i.i 0 l.args.medium.now (omega arith)))
+loop-i-preserved c = let v = c.loop-i.invariant in
+    (omega arith, (simp length-set (omega arith), ap (λ (s : List ℕ). set s c.loop-i.i 0) v.1.1 ∙ fill_more c.loop-i.i 0 c.args.medium.now (omega arith)))
 
 pub shape_of-medium : goal.shape_of-medium
 shape_of-medium c = c.loop-i.invariant.1.0
 
 pub returns : goal.returns
 unfolding zeros
-returns c = let l = c in
-    let m = l.args.medium.now in
-    let done : l.loop-i.i ≡ length m = omega arith in
-    l.loop-i.invariant.1.1 ∙ ap (λ (k : ℕ). replicate k 0 ++ drop k m) done ∙ ap (λ (s : List ℕ). replicate (length m) 0 ++ s) (drop-length m) ∙ append-nil (replicate (length m) 0)
+returns c = let m = c.args.medium.now in
+    let done : c.loop-i.i ≡ length m = omega arith in
+    c.loop-i.invariant.1.1 ∙ ap (λ (k : ℕ). replicate k 0 ++ drop k m) done ∙ ap (λ (s : List ℕ). replicate (length m) 0 ++ s) (drop-length m) ∙ append-nil (replicate (length m) 0)

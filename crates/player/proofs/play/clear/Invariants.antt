@@ -1,4 +1,4 @@
--- `clear` meets its contract. The invariant: i zeros, then what was there. Assumes nothing.
+-- The loop of `clear`: i zeros, then what was there.
 use Prim.Native.Nat.{◌-◌, ◌≤◌}
 use mathlib.Core.Path.{◌≡◌}
 use mathlib.Core.List.{◌++◌}

@@ -1,5 +1,5 @@
--- `hexes` meets its contract. The invariant: the first i bytes stand. Assumes nothing.
-use Prim.Native.Nat.{ℕ, ◌-◌}
+-- `hexes` meets its contract. Assumes nothing.
+use Prim.Native.Nat.{ℕ}
 use mathlib.Core.Path.{◌≡◌, ap, ◌∙◌}
 use native.Mathlib.Omega.{arith}
 use native.Mathlib.Nat.{le_antisymm}

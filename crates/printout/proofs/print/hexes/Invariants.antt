@@ -1,4 +1,4 @@
--- `hexes` meets its contract. The invariant: the first i bytes stand. Assumes nothing.
+-- The loop of `hexes`: the first i bytes stand.
 use Prim.Native.Nat.{◌-◌, ◌≤◌}
 use lib.ListN.{length, take}
 use Rattle.printout.specs.Writing.{Wrote}

@@ -1,4 +1,4 @@
--- `entries_formed` meets its contract. The invariant: what is left to look at decides. Assumes nothing.
+-- `entries_formed` meets its contract. Assumes nothing.
 use Prim.Native.Nat.{ℕ}
 use mathlib.Core.Path.{◌≡◌, refl, sym, ap, ◌∙◌}
 use native.Mathlib.Omega.{arith}

@@ -1,4 +1,4 @@
--- `entries_formed` meets its contract. The invariant: what is left to look at decides. Assumes nothing.
+-- The loop of `entries_formed`: what is left to look at decides.
 use Prim.Native.Nat.{◌+◌, ◌*◌}
 use mathlib.Core.Path.{◌≡◌}
 use lib.ListN.{drop}

@@ -1,6 +1,5 @@
 -- `cut_state` meets its contract. Assumes nothing.
 use Rattle.machine.specs.Bulk.{cut_state}
-use Rattle.machine.specs.Record.{moved}
 use Rattle.state.proofs.progress.cut_state.Goals as goal
 
 pub returns : goal.returns

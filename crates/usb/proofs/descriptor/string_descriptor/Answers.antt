@@ -1,4 +1,4 @@
--- `string_descriptor` meets its contract. The invariant: the header, the first i characters, zeros. Assumes nothing.
+-- `string_descriptor` meets its contract. Assumes nothing.
 use Prim.Native.Nat.{ℕ, suc, ◌+◌, ◌*◌, ◌-◌, ◌≤◌, ◌<◌}
 use mathlib.Core.Path.{◌≡◌, refl, sym, ap, ◌∙◌}
 use mathlib.Core.List.{List, [], ◌∷◌, ◌++◌, append_assoc}
@@ -61,13 +61,11 @@ loop-i-init c = (omega arith, (refl, (refl, refl)))
 
 pub loop-i-preserved : goal.loop-i-preserved
 loop-i-preserved c =
-    let l = c in
-    let v = l.loop-i.invariant in
-    (omega arith, (refl, (simp length-set (omega arith), ap (λ (s : List ℕ). set s (2 + 2 * l.loop-i.i) (get_or l.args.text.now l.loop-i.i 0)) v.1.1.1 ∙ step _ _ c.loop-i-test.true l.requires)))
+    let v = c.loop-i.invariant in
+    (omega arith, (refl, (simp length-set (omega arith), ap (λ (s : List ℕ). set s (2 + 2 * c.loop-i.i) (get_or c.args.text.now c.loop-i.i 0)) v.1.1.1 ∙ step _ _ c.loop-i-test.true c.requires)))
 
 pub returns : goal.returns
 returns c =
-    let l = c in
-    let done : l.loop-i.i ≡ length l.args.text.now = le_antisymm l.loop-i.invariant.0 c.loop-i-test.false in
-    (λ j. record { bytes = l.loop-i.invariant.1.1.1 j; len = 2 + 2 * length l.args.text.now })
-    ∙ sym (whole _ l.loop-i.i done l.requires)
+    let done : c.loop-i.i ≡ length c.args.text.now = le_antisymm c.loop-i.invariant.0 c.loop-i-test.false in
+    (λ j. record { bytes = c.loop-i.invariant.1.1.1 j; len = 2 + 2 * length c.args.text.now })
+    ∙ sym (whole _ c.loop-i.i done c.requires)

@@ -1,4 +1,4 @@
--- `string_descriptor` meets its contract. The invariant: the header, the first i characters, zeros. Assumes nothing.
+-- The loop of `string_descriptor`: the header, the first i characters, zeros.
 use Prim.Native.Nat.{ℕ, ◌+◌, ◌*◌, ◌-◌, ◌≤◌}
 use mathlib.Core.Path.{◌≡◌}
 use mathlib.Core.List.{List, ◌∷◌, ◌++◌}

@@ -1,4 +1,4 @@
--- `digits` meets its contract. The invariant: the digits that are left to write, an even number of them, then those that stand. Assumes nothing.
+-- `digits` meets its contract. Assumes nothing.
 use Prim.Native.Nat.{ℕ, zero, suc, ◌+◌, ◌≤◌, ◌<◌, ◌-◌, ◌/◌, ◌%◌}
 use mathlib.Core.Path.{◌≡◌, refl, sym, ap, ◌∙◌}
 use mathlib.Core.List.{List, ◌∷◌, ◌++◌, append-nil}
@@ -33,8 +33,7 @@ steps i x rest ones tens out h k r o t =
 
 pub loop-i-preserved : goal.loop-i-preserved
 loop-i-preserved c =
-    let l = c in
-    (omega arith, (omega arith, (omega arith, (simp length-set (omega arith), l.loop-i.invariant.1.1.1.1 ∙ steps _ _ _ _ _ _ (omega arith) (omega arith) (omega arith) (omega arith) (omega arith)))))
+    (omega arith, (omega arith, (omega arith, (simp length-set (omega arith), c.loop-i.invariant.1.1.1.1 ∙ steps _ _ _ _ _ _ (omega arith) (omega arith) (omega arith) (omega arith) (omega arith)))))
 
 pub returns : goal.returns
 unfolding decimal low

@@ -1,5 +1,5 @@
--- `digits` meets its contract. The invariant: the digits that are left to write, an even number of them, then those that stand. Assumes nothing.
-use Prim.Native.Nat.{◌^◌, ◌≤◌, ◌<◌, ◌-◌, ◌%◌}
+-- The loop of `digits`: the digits that are left to write, an even number of them, then those that stand.
+use Prim.Native.Nat.{◌^◌, ◌≤◌, ◌<◌, ◌%◌}
 use mathlib.Core.Path.{◌≡◌}
 use mathlib.Core.List.{◌++◌}
 use lib.ListN.{length, drop}

@@ -1,4 +1,4 @@
--- `number` meets its contract. The invariant: the sum is what the bytes passed stand for; a byte adds at most 207. Assumes nothing.
+-- `number` meets its contract. Assumes nothing.
 use Prim.Native.Nat.{ℕ, ◌+◌, ◌*◌, ◌^◌, ◌≤◌, ◌<◌, ◌-◌}
 use mathlib.Core.Path.{◌≡◌, refl, sym, ap, ◌∙◌}
 use mathlib.Core.List.{List, ◌∷◌, [], ◌++◌}
@@ -31,23 +31,20 @@ loop-i-init c = (omega arith, (omega arith, (refl, omega arith)))
 
 pub returns-then-s-i : goal.returns-then-s-i
 returns-then-s-i c =
-    let l = c in
-    let s = l.args.s.now in
-    l.loop-i.invariant.1.1.0 ∙ ap decimal_value (take_all l.loop-i.i s c.if-s-i.true ∙ sym (take_all 12 s (omega arith)))
+    let s = c.args.s.now in
+    c.loop-i.invariant.1.1.0 ∙ ap decimal_value (take_all c.loop-i.i s c.if-s-i.true ∙ sym (take_all 12 s (omega arith)))
 
 pub overflow_mul-sum : goal.overflow_mul-sum
 overflow_mul-sum c = let l = c.loop-i in omega (arith, small l.sum l.i c.loop-i-test.true l.invariant.1.1.1)
 
 pub overflow_add-sum : goal.overflow_add-sum
 overflow_add-sum c =
-    let l = c in
-    omega (arith, small l.loop-i.sum l.loop-i.i c.loop-i-test.true l.loop-i.invariant.1.1.1, c.shared_slice_known-in-loop-i-1.given l.loop-i.i)
+    omega (arith, small c.loop-i.sum c.loop-i.i c.loop-i-test.true c.loop-i.invariant.1.1.1, c.shared_slice_known-in-loop-i-1.given c.loop-i.i)
 
 pub loop-i-preserved : goal.loop-i-preserved
 loop-i-preserved c =
-    let l = c in
-    let v = l.loop-i.invariant.1.1 in
-    (omega arith, (omega arith, (step l.args.s.now _ l.loop-i.i _ (omega arith) v.0 c.digit_value.ensures, bound _ _ _ v.1 (omega (arith, c.shared_slice_known-in-loop-i-1.given l.loop-i.i)))))
+    let v = c.loop-i.invariant.1.1 in
+    (omega arith, (omega arith, (step c.args.s.now _ c.loop-i.i _ (omega arith) v.0 c.digit_value.ensures, bound _ _ _ v.1 (omega (arith, c.shared_slice_known-in-loop-i-1.given c.loop-i.i)))))
 
 pub returns : goal.returns
 returns c =

@@ -1,4 +1,4 @@
--- `number` meets its contract. The invariant: the sum is what the bytes passed stand for; a byte adds at most 207. Assumes nothing.
+-- The loop of `number`: the sum is what the bytes passed stand for; a byte adds at most 207.
 use Prim.Native.Nat.{◌+◌, ◌*◌, ◌^◌, ◌≤◌, ◌-◌}
 use mathlib.Core.Path.{◌≡◌}
 use lib.ListN.{length, take}

@@ -1,5 +1,5 @@
--- `put` meets its contract. The invariant: dst is the paste of the first i bytes of src. Assumes nothing.
-use Prim.Native.Nat.{ℕ, ◌+◌, ◌≤◌, ◌<◌, ◌-◌}
+-- `put` meets its contract. Assumes nothing.
+use Prim.Native.Nat.{ℕ, ◌+◌, ◌≤◌, ◌<◌}
 use mathlib.Core.Path.{◌≡◌, refl, sym, ap, ◌∙◌}
 use mathlib.Core.List.{List, ◌++◌}
 use native.Mathlib.Omega.{arith}
@@ -28,22 +28,20 @@ step d₀ d s at i e h k =
 
 pub loop-i-preserved : goal.loop-i-preserved
 loop-i-preserved c =
-    let l = c in
-    (omega arith, (step _ _ _ _ _ l.loop-i.invariant.1.0 (omega arith) c.loop-i-test.true, simp length-set (omega arith)))
+    (omega arith, (step _ _ _ _ _ c.loop-i.invariant.1.0 (omega arith) c.loop-i-test.true, simp length-set (omega arith)))
 
 pub shape_of-dst : goal.shape_of-dst
 shape_of-dst c = c.loop-i.invariant.1.1
 
 pub returns : goal.returns
 returns c =
-    let l = c in
-    let a = l.args in
+    let a = c.args in
     let d = a.dst.now in
     let s = a.src.now in
     let fit : a.at + length s ≤ length d = omega arith in
-    let whole : l.loop-i.i ≡ length s = le_antisymm l.loop-i.invariant.0 c.loop-i-test.false in (
+    let whole : c.loop-i.i ≡ length s = le_antisymm c.loop-i.invariant.0 c.loop-i-test.false in (
       sym (fits_yes d a.at s fit),
-      l.loop-i.invariant.1.0
+      c.loop-i.invariant.1.0
           ∙ ap (λ (n : ℕ). paste d a.at s n) whole
           ∙ ap (λ (t : List ℕ). take a.at d ++ t ++ drop (a.at + length s) d) (take-length s)
           ∙ sym (placed_yes d a.at s fit),

@@ -1,4 +1,4 @@
--- `put` meets its contract. The invariant: dst is the paste of the first i bytes of src. Assumes nothing.
+-- The loop of `put`: dst is the paste of the first i bytes of src.
 use Prim.Native.Nat.{◌≤◌, ◌-◌}
 use mathlib.Core.Path.{◌≡◌}
 use lib.ListN.{length}

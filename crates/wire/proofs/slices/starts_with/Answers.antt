@@ -1,5 +1,4 @@
--- `starts_with` meets its contract. The invariant: what is left of both decides. Assumes nothing.
-use Prim.Native.Nat.{◌-◌}
+-- `starts_with` meets its contract. Assumes nothing.
 use mathlib.Core.Path.{refl, sym, ◌∙◌}
 use native.Mathlib.Omega.{arith}
 use lib.ListN.{drop_of_length-le}
@@ -18,17 +17,15 @@ loop-i-init c = (omega arith, refl)
 pub returns-then-s-i : goal.returns-then-s-i
 unfolding ◌and◌
 returns-then-s-i c =
-    let l = c in
     let t = c.loop-i-test.true in
-    let a = l.args in
-    simp (l.loop-i.invariant.1, starts_step a.front.now a.s.now l.loop-i.i t (omega arith), ne_eqb _ _ c.if-s-i.true)
+    let a = c.args in
+    simp (c.loop-i.invariant.1, starts_step a.front.now a.s.now c.loop-i.i t (omega arith), ne_eqb _ _ c.if-s-i.true)
 
 pub loop-i-preserved : goal.loop-i-preserved
 unfolding ◌and◌
 loop-i-preserved c =
-    let l = c in
     let t = c.loop-i-test.true in
-    (omega arith, l.loop-i.invariant.1 ∙ starts_step _ _ _ t (omega arith) ∙ simp (eq-eqb _ _ c.if-s-i.false))
+    (omega arith, c.loop-i.invariant.1 ∙ starts_step _ _ _ t (omega arith) ∙ simp (eq-eqb _ _ c.if-s-i.false))
 
 pub returns : goal.returns
 unfolding starts_with

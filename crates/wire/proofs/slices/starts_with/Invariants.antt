@@ -1,4 +1,4 @@
--- `starts_with` meets its contract. The invariant: what is left of both decides. Assumes nothing.
+-- The loop of `starts_with`: what is left of both decides.
 use Prim.Native.Nat.{◌≤◌, ◌-◌}
 use mathlib.Core.Path.{◌≡◌}
 use lib.ListN.{length, drop}
