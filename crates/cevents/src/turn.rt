@@ -185,7 +185,8 @@ pub fn turn_control(
     let told = told(answer);
     let number = told.number;
     // A request that is answered with data changes no record and no unit.
-    if number == 0 {
+    let data = number == 0;
+    if data {
         return Turn {
             told,
             flat,

@@ -91,7 +91,8 @@ pub fn decodes(flat: Flat) -> bool
     ensures { result ≡ decodes flat }
 {
     let flags = flat.flags;
-    if 15 < flags {
+    let unknown = 15 < flags;
+    if unknown {
         return false;
     }
     stage_decodes(flat.stage, flat.place, flat.left, flat.value, flat.extra)

@@ -42,7 +42,8 @@ fn kind_of(first: u8, second: u8, len: usize, position: u8, unit: usize, units: 
         return Kind::Malformed;
     }
     if first == 2 {
-        if len == 8 {
+        let setup = len == 8;
+        if setup {
             return Kind::Control;
         }
         return Kind::Malformed;
@@ -63,7 +64,8 @@ fn kind_of(first: u8, second: u8, len: usize, position: u8, unit: usize, units: 
         if len != 2 {
             return Kind::Malformed;
         }
-        if 1 < position {
+        let beyond = 1 < position;
+        if beyond {
             return Kind::Malformed;
         }
         if unit < units {

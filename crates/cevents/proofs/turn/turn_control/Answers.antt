@@ -15,13 +15,13 @@ returns-then-not-stands c =
     let a = c.args in
     refuses a.given a.flat a.units (machine.control a.setup.now a.buffer.now) a.part.now m _ _ _ _ (sym c.stands.ensures ∙ not-true _ c.if-not-stands.true-raw) c.refused.ensures.0 c.refused.ensures.1.0 c.refused.ensures.1.1
 
-pub returns-then-number-eq0 : goal.returns-then-number-eq0
-returns-then-number-eq0 c =
+pub returns-then-data : goal.returns-then-data
+returns-then-data c =
     λ m.
     let a = c.args in
     let r = c.control_parts-moved.result in
     unchanged a.given a.flat a.units a.setup.now a.part.now m a.buffer.now _ _ r.answer r.state (applied r.change (table_of a.units)) _ _ _ (sym c.stands.ensures ∙ not-false _ c.if-not-stands.false-raw) c.identity_from.ensures c.state_from.ensures
-    (c.control_parts-moved.ensures m) c.told-told.ensures c.if-number-eq0.true
+    (c.control_parts-moved.ensures m) c.told-told.ensures c.if-data.true
 
 pub returns : goal.returns
 returns c =

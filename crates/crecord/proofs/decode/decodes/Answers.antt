@@ -4,10 +4,10 @@ use Rattle.wire.specs.Choice.{◌and◌}
 use Rattle.crecord.specs.Flat.{decodes}
 use Rattle.crecord.proofs.decode.decodes.Goals as goal
 
-pub returns-then-flags-gt15 : goal.returns-then-flags-gt15
+pub returns-then-unknown : goal.returns-then-unknown
 unfolding decodes ◌and◌
-returns-then-flags-gt15 c = simp (lt-leb _ _ c.if-flags-gt15.true)
+returns-then-unknown c = simp (lt-leb _ _ c.if-unknown.true)
 
 pub returns : goal.returns
 unfolding decodes ◌and◌
-returns c = simp (le-leb _ _ c.if-flags-gt15.false) c.stage_decodes.ensures
+returns c = simp (le-leb _ _ c.if-unknown.false) c.stage_decodes.ensures

@@ -17,13 +17,13 @@ pub returns-then-first-eq1 : goal.returns-then-first-eq1
 unfolding kind_of when◌then◌else◌
 returns-then-first-eq1 c = simp (eq-eqb _ _ c.if-second-ne0.false, eq-eqb _ _ c.if-first-eq1.true, ne_eqb _ _ c.if-len-eq0.false)
 
-pub returns-then-len-eq8 : goal.returns-then-len-eq8
+pub returns-then-setup : goal.returns-then-setup
 unfolding kind_of when◌then◌else◌
-returns-then-len-eq8 c = simp (eq-eqb _ _ c.if-second-ne0.false, ne_eqb _ _ c.if-first-eq1.false, eq-eqb _ _ c.if-first-eq2.true, eq-eqb _ _ c.if-len-eq8.true)
+returns-then-setup c = simp (eq-eqb _ _ c.if-second-ne0.false, ne_eqb _ _ c.if-first-eq1.false, eq-eqb _ _ c.if-first-eq2.true, eq-eqb _ _ c.if-setup.true)
 
 pub returns-then-first-eq2 : goal.returns-then-first-eq2
 unfolding kind_of when◌then◌else◌
-returns-then-first-eq2 c = simp (eq-eqb _ _ c.if-second-ne0.false, ne_eqb _ _ c.if-first-eq1.false, eq-eqb _ _ c.if-first-eq2.true, ne_eqb _ _ c.if-len-eq8.false)
+returns-then-first-eq2 c = simp (eq-eqb _ _ c.if-second-ne0.false, ne_eqb _ _ c.if-first-eq1.false, eq-eqb _ _ c.if-first-eq2.true, ne_eqb _ _ c.if-setup.false)
 
 pub returns-then-len-le64 : goal.returns-then-len-le64
 unfolding kind_of when◌then◌else◌
@@ -45,17 +45,17 @@ pub returns-then-len-ne2 : goal.returns-then-len-ne2
 unfolding kind_of when◌then◌else◌ ◌and◌
 returns-then-len-ne2 c = simp (eq-eqb _ _ c.if-second-ne0.false, ne_eqb _ _ c.if-first-eq1.false, ne_eqb _ _ c.if-first-eq2.false, ne_eqb _ _ c.if-first-eq3.false, ne_eqb _ _ c.if-first-eq4.false, eq-eqb _ _ c.if-first-eq5.true, ne_eqb _ _ c.if-len-ne2.true)
 
-pub returns-then-position-gt1 : goal.returns-then-position-gt1
+pub returns-then-beyond : goal.returns-then-beyond
 unfolding kind_of when◌then◌else◌ ◌and◌ switch_fits
-returns-then-position-gt1 c = simp (eq-eqb _ _ c.if-second-ne0.false, ne_eqb _ _ c.if-first-eq1.false, ne_eqb _ _ c.if-first-eq2.false, ne_eqb _ _ c.if-first-eq3.false, ne_eqb _ _ c.if-first-eq4.false, eq-eqb _ _ c.if-first-eq5.true, eq-eqb _ _ c.if-len-ne2.false, lt-leb _ 1 c.if-position-gt1.true)
+returns-then-beyond c = simp (eq-eqb _ _ c.if-second-ne0.false, ne_eqb _ _ c.if-first-eq1.false, ne_eqb _ _ c.if-first-eq2.false, ne_eqb _ _ c.if-first-eq3.false, ne_eqb _ _ c.if-first-eq4.false, eq-eqb _ _ c.if-first-eq5.true, eq-eqb _ _ c.if-len-ne2.false, lt-leb _ 1 c.if-beyond.true)
 
 pub returns-then-unit-units : goal.returns-then-unit-units
 unfolding kind_of when◌then◌else◌ ◌and◌ switch_fits
-returns-then-unit-units c = simp (eq-eqb _ _ c.if-second-ne0.false, ne_eqb _ _ c.if-first-eq1.false, ne_eqb _ _ c.if-first-eq2.false, ne_eqb _ _ c.if-first-eq3.false, ne_eqb _ _ c.if-first-eq4.false, eq-eqb _ _ c.if-first-eq5.true, eq-eqb _ _ c.if-len-ne2.false, le-leb _ 1 c.if-position-gt1.false, lt-ltb _ _ c.if-unit-units.true)
+returns-then-unit-units c = simp (eq-eqb _ _ c.if-second-ne0.false, ne_eqb _ _ c.if-first-eq1.false, ne_eqb _ _ c.if-first-eq2.false, ne_eqb _ _ c.if-first-eq3.false, ne_eqb _ _ c.if-first-eq4.false, eq-eqb _ _ c.if-first-eq5.true, eq-eqb _ _ c.if-len-ne2.false, le-leb _ 1 c.if-beyond.false, lt-ltb _ _ c.if-unit-units.true)
 
 pub returns-then-first-eq5 : goal.returns-then-first-eq5
 unfolding kind_of when◌then◌else◌ ◌and◌ switch_fits
-returns-then-first-eq5 c = simp (eq-eqb _ _ c.if-second-ne0.false, ne_eqb _ _ c.if-first-eq1.false, ne_eqb _ _ c.if-first-eq2.false, ne_eqb _ _ c.if-first-eq3.false, ne_eqb _ _ c.if-first-eq4.false, eq-eqb _ _ c.if-first-eq5.true, eq-eqb _ _ c.if-len-ne2.false, le-leb _ 1 c.if-position-gt1.false, le-ltb _ _ c.if-unit-units.false)
+returns-then-first-eq5 c = simp (eq-eqb _ _ c.if-second-ne0.false, ne_eqb _ _ c.if-first-eq1.false, ne_eqb _ _ c.if-first-eq2.false, ne_eqb _ _ c.if-first-eq3.false, ne_eqb _ _ c.if-first-eq4.false, eq-eqb _ _ c.if-first-eq5.true, eq-eqb _ _ c.if-len-ne2.false, le-leb _ 1 c.if-beyond.false, le-ltb _ _ c.if-unit-units.false)
 
 pub returns : goal.returns
 unfolding kind_of when◌then◌else◌
