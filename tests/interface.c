@@ -376,6 +376,7 @@ int main(void)
     switches_of_units();
     histories_apart_in_one_unit();
     tables_kept();
+    tables_at_their_end();
     worked_ledger();
     random_ledgers();
     shown_reads();

@@ -10,5 +10,6 @@ void senses_of_units(void);
 void switches_of_units(void);
 void histories_apart_in_one_unit(void);
 void tables_kept(void);
+void tables_at_their_end(void);
 
 #endif

@@ -1,13 +1,13 @@
 // The command of an accepted wrapper begins: its plan and the announced length decide sense, halts and stage.
 ghost use Rattle.std.specs.Prelude.{true, ◌≡◌};
-ghost use Rattle.machine.specs.Begin.{host_of, has_of, sense_of, own_status, reply_of, data_stage, first_stage};
-ghost use Rattle.machine.specs.Begin.{halts_in, halts_out, sensed, staged};
-ghost use Rattle.begin.specs.InRange.{is_in_range, begun_in_range};
+ghost use Rattle.machine.specs.Begin.{host_of, has_of, sense_of, own_status, reply_of, data_stage, sensed, staged};
+ghost use Rattle.begin.specs.InRange.{is_in_range, halts, begun_in_range};
 
 use bot::cbw::Header;
 use bot::csw::Status;
 use cases::{Ending, Halt, Pipe, Transfer, case_of};
 use machine::record::{LogicalUnit, MOST_BLOCKS, Stage, State, Task};
+use machine::wrapper::Wrapper;
 use scsi::command::Plan;
 use scsi::reply::{Reply, ReplyKind};
 use scsi::sense::Sense;
@@ -17,20 +17,19 @@ use units::unit::{is_protected, with_sense};
 fn host_of(header: Header) -> Transfer
     ensures { result ≡ host_of header }
 {
-    let inward = header.inward;
-    let announced = header.announced;
-    if inward {
-        return Transfer::In(announced);
+    if header.inward {
+        Transfer::In(header.announced)
+    } else {
+        Transfer::Out(header.announced)
     }
-    Transfer::Out(announced)
 }
 
+#[tactic(auto, unfolding(machine::specs::Begin::has_of))]
 fn has_of(plan: Plan) -> Transfer
     ensures { result ≡ has_of plan }
 {
     match plan {
-        Plan::Failed(_) => Transfer::None,
-        Plan::Nothing => Transfer::None,
+        Plan::Failed(_) | Plan::Nothing => Transfer::None,
         Plan::Reply { kind: _, size } => Transfer::In(size as u32),
         Plan::Read { block: _, count } => Transfer::In(512 * (count as u32)),
         Plan::Write { block: _, count } => Transfer::Out(512 * (count as u32)),
@@ -38,48 +37,46 @@ fn has_of(plan: Plan) -> Transfer
 }
 
 // The sense that a command leaves: none, if it passed.
+#[tactic(auto, unfolding(machine::specs::Begin::sense_of))]
 fn sense_of(plan: Plan) -> Sense
     ensures { result ≡ sense_of plan }
 {
     match plan {
         Plan::Failed(sense) => sense,
-        Plan::Nothing => Sense::NONE,
-        Plan::Reply { kind: _, size: _ } => Sense::NONE,
-        Plan::Read { block: _, count: _ } => Sense::NONE,
-        Plan::Write { block: _, count: _ } => Sense::NONE,
+        _ => Sense::NONE,
     }
 }
 
+#[tactic(auto, unfolding(machine::specs::Begin::own_status))]
 fn own_status(plan: Plan) -> Status
     ensures { result ≡ own_status plan }
 {
     match plan {
         Plan::Failed(_) => Status::Failed,
-        Plan::Nothing => Status::Passed,
-        Plan::Reply { kind: _, size: _ } => Status::Passed,
-        Plan::Read { block: _, count: _ } => Status::Passed,
-        Plan::Write { block: _, count: _ } => Status::Passed,
+        _ => Status::Passed,
     }
 }
 
 // A reply has the values found at the wrapper: Request Sense sends the sense that it found, Mode Sense the position of
 // the switch.
+#[tactic(auto, unfolding(machine::specs::Begin::reply_of))]
 fn reply_of(kind: ReplyKind, unit: LogicalUnit) -> Reply
     ensures { result ≡ reply_of kind unit }
 {
-    let sense = unit.sense;
-    let blocks = unit.blocks;
     match kind {
-        ReplyKind::Sense => Reply::Sense(sense),
+        ReplyKind::Sense => Reply::Sense(unit.sense),
         ReplyKind::Inquiry => Reply::Inquiry,
         ReplyKind::Page(page) => Reply::Page(page),
         ReplyKind::ModeSense => Reply::ModeSense {
             protected: is_protected(unit),
         },
-        ReplyKind::Capacity => Reply::Capacity { blocks },
+        ReplyKind::Capacity => Reply::Capacity {
+            blocks: unit.blocks,
+        },
     }
 }
 
+#[tactic(auto, unfolding(machine::specs::Begin::data_stage))]
 fn data_stage(plan: Plan, unit: LogicalUnit) -> Stage
     requires { is_in_range plan ≡ true }
     ensures { result ≡ data_stage plan unit }
@@ -108,47 +105,33 @@ fn data_stage(plan: Plan, unit: LogicalUnit) -> Stage
     }
 }
 
-fn first_stage(moves: Transfer, plan: Plan, unit: LogicalUnit) -> Stage
+// The status is due at once where no data moves, and after a phase error.
+#[tactic(auto, unfolding(machine::specs::Begin::staged, machine::specs::Begin::first_stage))]
+fn staged(ending: Ending, moves: Transfer, plan: Plan, unit: LogicalUnit) -> Stage
     requires { is_in_range plan ≡ true }
-    ensures { result ≡ first_stage moves plan unit }
+    ensures { result ≡ staged ending moves plan unit }
 {
-    match moves {
-        Transfer::None => Stage::StatusDue {
+    match (ending, moves) {
+        (Ending::PhaseError, _) => Stage::StatusDue {
+            status: Status::PhaseError,
+        },
+        (Ending::Command, Transfer::None) => Stage::StatusDue {
             status: own_status(plan),
         },
-        Transfer::In(_) => data_stage(plan, unit),
-        Transfer::Out(_) => data_stage(plan, unit),
+        (Ending::Command, _) => data_stage(plan, unit),
     }
 }
 
-// A halt after data waits for the data's end.
-fn halts_in(halt: Halt, before: bool) -> bool
-    ensures { result ≡ halts_in halt before }
+// A pipe that is halted at once, or was so before; a halt after data waits for the data's end.
+#[tactic(auto, unfolding(machine::specs::Begin::halts_in, machine::specs::Begin::halts_out))]
+fn halts(pipe: Pipe, halt: Halt, before: bool) -> bool
+    ensures { result ≡ halts pipe halt before }
 {
-    match halt {
-        Halt::None => before,
-        Halt::AtOnce(pipe) => match pipe {
-            Pipe::In => true,
-            Pipe::Out => before,
-        },
-        Halt::AfterData(_) => before,
-    }
-}
-
-fn halts_out(halt: Halt, before: bool) -> bool
-    ensures { result ≡ halts_out halt before }
-{
-    match halt {
-        Halt::None => before,
-        Halt::AtOnce(pipe) => match pipe {
-            Pipe::In => before,
-            Pipe::Out => true,
-        },
-        Halt::AfterData(_) => before,
-    }
+    halt == Halt::AtOnce(pipe) || before
 }
 
 // A phase error found at the wrapper leaves the sense.
+#[tactic(auto, unfolding(machine::specs::Begin::sensed))]
 fn sensed(ending: Ending, plan: Plan, found: Sense) -> Sense
     ensures { result ≡ sensed ending plan found }
 {
@@ -158,27 +141,13 @@ fn sensed(ending: Ending, plan: Plan, found: Sense) -> Sense
     }
 }
 
-fn staged(ending: Ending, moves: Transfer, plan: Plan, unit: LogicalUnit) -> Stage
-    requires { is_in_range plan ≡ true }
-    ensures { result ≡ staged ending moves plan unit }
-{
-    match ending {
-        Ending::Command => first_stage(moves, plan, unit),
-        Ending::PhaseError => Stage::StatusDue {
-            status: Status::PhaseError,
-        },
-    }
-}
-
+#[tactic(auto, unfolding(crate::specs::InRange::is_in_range))]
 fn is_in_range(plan: Plan) -> bool
     ensures { result ≡ is_in_range plan }
 {
     match plan {
-        Plan::Failed(_) => true,
-        Plan::Nothing => true,
-        Plan::Reply { kind: _, size: _ } => true,
         Plan::Read { block, count: _ } => block <= MOST_BLOCKS,
-        Plan::Write { block: _, count: _ } => true,
+        _ => true,
     }
 }
 
@@ -190,31 +159,25 @@ pub struct Begun {
 }
 
 // State and unit once the command is accepted. No unit has a plan that is not in range; one leaves both as they were.
-pub fn begin(header: Header, plan: Plan, state: State, unit: LogicalUnit) -> Begun
-    ensures { result ≡ begun_in_range header plan state unit }
+pub fn begin(wrapper: Wrapper, state: State, unit: LogicalUnit) -> Begun
+    ensures { result ≡ begun_in_range wrapper.header wrapper.plan state unit }
 {
+    let Wrapper { header, plan } = wrapper;
     if !is_in_range(plan) {
         return Begun { state, unit };
     }
-    let link = state.link;
-    let found = unit.sense;
     let case = case_of(host_of(header), has_of(plan));
-    let moves = case.moves;
-    let halt = case.halt;
-    let ending = case.ending;
-    let sense = sensed(ending, plan, found);
-    let haltin = halts_in(halt, link.haltin);
-    let haltout = halts_out(halt, link.haltout);
-    let stage = staged(ending, moves, plan, unit);
     let task = Task {
-        stage,
+        stage: staged(case.ending, case.moves, plan, unit),
         lun: header.lun,
         tag: header.tag,
         announced: header.announced,
         residue: header.announced,
     };
+    let haltin = halts(Pipe::In, case.halt, state.link.haltin);
+    let haltout = halts(Pipe::Out, case.halt, state.link.haltout);
     Begun {
         state: moved(state, haltin, haltout, task),
-        unit: with_sense(unit, sense),
+        unit: with_sense(unit, sensed(case.ending, plan, unit.sense)),
     }
 }

@@ -5,6 +5,7 @@ use mathlib.Core.Bool.{Bool, true, false, not}
 use mathlib.Core.List.{List, [], ◌∷◌, ◌++◌}
 use native.Mathlib.Omega.{arith}
 use native.Mathlib.Nat.{mod-eq_of_lt}
+use Rattle.std.specs.Prelude.{Result, Ok}
 use lib.Dec.{eqb, leb}
 use lib.ListN.{length, take, drop, drop_of_length-le}
 use lib.Seq.{take_at}
@@ -18,13 +19,13 @@ use Rattle.wire.proofs.Lists.{bytes_front, bytes_tail, length-bytes, starts_take
 use Rattle.wire.proofs.Positional.{byte_order}
 use Rattle.bot.specs.declared.cbw.Header.{Header}
 use Rattle.bot.specs.declared.cbw.Cbw.{Cbw}
-use Rattle.bot.specs.Answer.{number_of, Writing, writing}
+use Rattle.bot.specs.declared.refused.Refused.{Refused}
+use Rattle.bot.specs.Answer.{Writing, writing}
 use Rattle.bot.specs.Cbw.{cbw_signature, in_range, readable, header_of, Reading, read_cbw, direction, cbw_bytes, writable, write_cbw}
 use Rattle.bot.specs.declared.csw.Status.{Status}
 use Rattle.bot.specs.declared.csw.Status.TheVariants.{Passed, Failed, PhaseError}
 use Rattle.bot.specs.declared.csw.Csw.{Csw}
-use Rattle.bot.specs.declared.csw.CswRead.{CswRead}
-use Rattle.bot.specs.Csw.{csw_signature, status_code, csw_bytes, shown, refusal, acceptance, statuses, read_csw, write_csw}
+use Rattle.bot.specs.Csw.{csw_signature, status_code, csw_bytes, shown, refusal, acceptance, statuses, status_of, read_csw, write_csw}
 use Rattle.bot.specs.Csw as csw
 use Rattle.bot.specs.Claims.{IsCbw, IsCsw, CbwRoundTrip, CswRoundTrip}
 use Rattle.bot.proofs.Wrappers.{readable_long}
@@ -201,30 +202,30 @@ pub length-csw : (c : Csw) → length (csw_bytes c) ≡ 13
 unfolding csw_bytes low
 length-csw c = refl
 
--- the status byte of a readable wrapper, and what is read by it
-abbrev Found : List ℕ → ℕ → CswRead → Type 0
-Found p x r = (s : Status) × (x ≡ status_code s) × (r ≡ acceptance p s)
+-- the status byte of a readable wrapper
+abbrev Found : ℕ → Result Status Refused → Type 0
+Found x r = (s : Status) × (x ≡ status_code s) × (r ≡ Ok s)
 
-found : (p : List ℕ) (x : ℕ) → number_of (look (statuses p) x refusal).answer ≡ 1 → Found p x (look (statuses p) x refusal)
-unfolding statuses look
+found : (p : List ℕ) (x : ℕ) → (shown (acceptance p (status_of x))).number ≡ 1 → Found x (status_of x)
+unfolding status_of statuses look
 found p x =
     by-if P (eqb x 0) _ _ (λ h n. (Passed, eqb-true x 0 h, refl))
     (λ _. by-if P (eqb x 1) _ _ (λ h n. (Failed, eqb-true x 1 h, refl))
     (λ _. by-if P (eqb x 2) _ _ (λ h n. (PhaseError, eqb-true x 2 h, refl)) (λ _ n. absurd (omega arith))))
   where
-    P : CswRead → Type 0
-    P r = number_of r.answer ≡ 1 → Found p x r
+    P : Result Status Refused → Type 0
+    P r = (shown (acceptance p r)).number ≡ 1 → Found x r
 
-status-known : (p : List ℕ) (s : Status) → look (statuses p) (status_code s) refusal ≡ acceptance p s
-unfolding statuses look when◌then◌else◌
-status-known p Passed = refl
-status-known p Failed = refl
-status-known p PhaseError = refl
+status-known : (s : Status) → status_of (status_code s) ≡ Ok s
+unfolding status_of statuses look when◌then◌else◌
+status-known Passed = refl
+status-known Failed = refl
+status-known PhaseError = refl
 
 written-csw : (c : Csw) → IsCsw c → read_csw (csw_bytes c) ≡ record { number = 1; csw = c }
-unfolding read_csw csw_bytes low starts_with when◌then◌else◌ ◌and◌ acceptance bytes_at
+unfolding read_csw csw_bytes low starts_with when◌then◌else◌ ◌and◌ bytes_at
 written-csw c ok =
-    ap shown (status-known (csw_bytes c) c.status)
+    ap (λ (r : Result Status Refused). shown (acceptance (csw_bytes c) r)) (status-known c.status)
     ∙ (λ i. record { number = 1; csw = record { tag = back32 c.tag ok.tag i; residue = back32 c.residue ok.residue i; status = c.status } })
 
 csw_there : (c : Csw) (b : List ℕ) → IsCsw c → (write_csw c b).number ≡ 0 → read_csw (take 13 (write_csw c b).buffer) ≡ record { number = 1; csw = c }
@@ -242,8 +243,8 @@ unfolding bytes_at
 csw_cells g t r s p eg et er es en = λ i. eg i ++ et i ++ er i ++ es i ∷ en i
 
 csw_of_read : (p : List ℕ) (s : Status) → Below 256 p → length p ≡ 13 → starts_with csw_signature p ≡ true → byte_at p 12 ≡ status_code s
-    → csw_bytes (acceptance p s).csw ≡ p
-unfolding csw_bytes acceptance
+    → csw_bytes (shown (acceptance p (Ok s))).csw ≡ p
+unfolding csw_bytes
 csw_of_read p s bs long sig code =
     csw_cells _ _ _ _ p (front4 csw_signature p refl (omega arith) sig) (again4 4 p bs) (again4 8 p bs) (sym code) (sym (drop_of_length-le p {i = 13} (omega arith)))
     ∙ sym (bytes_front 13 p (omega arith))
@@ -254,10 +255,10 @@ csw_again p b bs e h =
     let t = taken (λ (w : csw.Reading). w.number) (eqb (length p) 13 and starts_with csw_signature p) _ _ refl (λ z. omega arith) e in
     let w = both _ _ t in
     let long : length p ≡ 13 = eqb-true _ _ w.0 in
-    let chosen = if-true _ (shown (look (statuses p) (byte_at p 12) refusal)) (shown refusal) t in
+    let chosen = if-true _ (shown (acceptance p (status_of (byte_at p 12)))) (shown refusal) t in
     let f = found p (byte_at p 12) (sym (ap (λ (r : csw.Reading). r.number) chosen) ∙ e) in
     let same = csw_of_read p f.0 bs long w.1 f.1 in
-    ap (λ (r : csw.Reading). write_csw r.csw b) (chosen ∙ ap shown f.2)
+    ap (λ (r : csw.Reading). write_csw r.csw b) (chosen ∙ ap (λ (r : Result Status Refused). shown (acceptance p r)) f.2)
     ∙ if-true _ _ _ (ap (fits b 0) same ∙ fits_yes b 0 p (omega arith))
     ∙ ap (λ (s : List ℕ). writing 0 13 (placed b 0 s)) same
     ∙ ap (λ (l : List ℕ). writing 0 13 l) (at_front b p 13 long h)

@@ -8,8 +8,7 @@ use lib.ListN.{length}
 use borrow.Author.Tests.{eqb-true}
 use Rattle.wire.proofs.Cases.{both, by-if}
 use Rattle.bot.specs.declared.cbw.Header.{Header}
-use Rattle.bot.specs.declared.cbw.HeaderRead.{HeaderRead}
-use Rattle.bot.specs.declared.cbw.HeaderRead.TheVariants.{Readable, Unreadable}
+use Rattle.std.specs.Prelude.{Option, Some, None}
 use Rattle.bot.specs.Cbw.{readable, header_of, zero_header, Fields, fields, shown_header, read_header}
 
 pub readable_long : (p : List ℕ) → readable p ≡ true → length p ≡ 31
@@ -17,7 +16,7 @@ unfolding readable
 readable_long p e = eqb-true _ _ (both _ _ e).0
 
 -- what a read header tells of the bytes
-pub read-readable : (p : List ℕ) (r : HeaderRead) (h : Header) → shown_header r ≡ read_header p → r ≡ Readable h → (readable p ≡ true) × (h ≡ header_of p)
+pub read-readable : (p : List ℕ) (r : Option Header) (h : Header) → shown_header r ≡ read_header p → r ≡ Some h → (readable p ≡ true) × (h ≡ header_of p)
 unfolding read_header
 read-readable p r h e f =
     by-if (λ (x : Fields). fields 1 h ≡ x → (readable p ≡ true) × (h ≡ header_of p)) (readable p) _ _
@@ -25,7 +24,7 @@ read-readable p r h e f =
     (λ _ q. let z = ap (λ (x : Fields). x.number) q in absurd (omega arith))
     (sym (ap shown_header f) ∙ e)
 
-pub not-readable : (p : List ℕ) (r : HeaderRead) → shown_header r ≡ read_header p → r ≡ Unreadable → readable p ≡ false
+pub not-readable : (p : List ℕ) (r : Option Header) → shown_header r ≡ read_header p → r ≡ None → readable p ≡ false
 unfolding read_header
 not-readable p r e f =
     by-if (λ (x : Fields). fields 17 zero_header ≡ x → readable p ≡ false) (readable p) _ _

@@ -1,17 +1,17 @@
 -- Document 01's number, and the count of bytes, for each answer of the codec ("Numbers that come back", "Wrappers").
-use Rattle.std.specs.Prelude.{ℕ, List}
-use Rattle.bot.specs.declared.answer.Answer.{Answer}
-use Rattle.bot.specs.declared.answer.Answer.TheVariants.{Written, Read, Refused}
+use Rattle.std.specs.Prelude.{ℕ, List, Result, Ok, Err}
+use Rattle.bot.specs.declared.refused.Refused.{Refused}
 
-abbrev pub number_of : Answer → ℕ
-number_of (Written n) = 0
-number_of Read = 1
-number_of Refused = 17
+abbrev pub refused : Refused
+refused = record {}
 
-abbrev pub count_of : Answer → ℕ
-count_of (Written n) = n
-count_of Read = 0
-count_of Refused = 0
+abbrev pub number_of : Result ℕ Refused → ℕ
+number_of (Ok n) = 0
+number_of (Err e) = 17
+
+abbrev pub count_of : Result ℕ Refused → ℕ
+count_of (Ok n) = n
+count_of (Err e) = 0
 
 -- What writing a wrapper leaves: the number, the count of bytes written, the buffer.
 pub record Writing : Type 0 where
@@ -22,5 +22,5 @@ pub record Writing : Type 0 where
 abbrev pub writing : ℕ → ℕ → List ℕ → Writing
 writing k n b = record { number = k; count = n; buffer = b }
 
-abbrev pub written : Answer → List ℕ → Writing
-written a b = writing (number_of a) (count_of a) b
+abbrev pub written : Result ℕ Refused → List ℕ → Writing
+written r b = writing (number_of r) (count_of r) b

@@ -1,16 +1,14 @@
 -- The command wrapper (BOT 5.1; document 01, "Wrappers").
-use Rattle.std.specs.Prelude.{ℕ, Bool, true, false, not, List, ◌∷◌, ◌++◌, eqb, leb, length, drop}
+use Rattle.std.specs.Prelude.{ℕ, Bool, true, false, not, List, ◌∷◌, ◌++◌, eqb, leb, length, drop, Option, Some, None, Result, Ok, Err}
 use Rattle.wire.specs.Choice.{when◌then◌else◌, ◌and◌}
 use Rattle.wire.specs.Slices.{byte_at, bytes_at, zeros, starts_with, fits, placed}
 use Rattle.wire.specs.Numbers.{little, little_bytes}
 use Rattle.wire.specs.Bits.{bits, clear}
 use Rattle.wire.specs.Texts.{ascii}
 use Rattle.bot.specs.declared.cbw.Header.{Header}
-use Rattle.bot.specs.declared.cbw.HeaderRead.{HeaderRead}
-use Rattle.bot.specs.declared.cbw.HeaderRead.TheVariants.{Readable, Unreadable}
 use Rattle.bot.specs.declared.cbw.Cbw.{Cbw}
-use Rattle.bot.specs.declared.cbw.CbwRead.{CbwRead}
-use Rattle.bot.specs.Answer.{number_of, Writing, writing}
+use Rattle.bot.specs.declared.refused.Refused.{Refused}
+use Rattle.bot.specs.Answer.{Writing, writing}
 
 -- 55 53 42 43
 abbrev pub cbw_signature : List ℕ
@@ -47,9 +45,9 @@ pub record Fields : Type 0 where
 abbrev pub fields : ℕ → Header → Fields
 fields n h = record { number = n; header = h }
 
-abbrev pub shown_header : HeaderRead → Fields
-shown_header (Readable h) = fields 1 h
-shown_header Unreadable = fields 17 zero_header
+abbrev pub shown_header : Option Header → Fields
+shown_header (Some h) = fields 1 h
+shown_header None = fields 17 zero_header
 
 unfoldable pub read_header : List ℕ → Fields
 read_header p = when readable p then fields 1 (header_of p) else fields 17 zero_header
@@ -59,11 +57,12 @@ pub record Reading : Type 0 where
   pub number : ℕ
   pub cbw : Cbw
 
-abbrev pub shown : CbwRead → Reading
-shown r = record { number = number_of r.answer; cbw = r.cbw }
-
 unfoldable pub zero_cbw : Cbw
 zero_cbw = record { header = zero_header; block = zeros 16 }
+
+abbrev pub shown : Result Cbw Refused → Reading
+shown (Ok c) = record { number = 1; cbw = c }
+shown (Err e) = record { number = 17; cbw = zero_cbw }
 
 -- "The command block is read where it stands, from byte 15 of the wrapper."
 unfoldable pub read_cbw : List ℕ → Reading

@@ -1,5 +1,5 @@
 -- The status wrapper (BOT 5.2; document 01, "Wrappers").
-use Rattle.std.specs.Prelude.{ℕ, List, [], ◌∷◌, ◌++◌, eqb, length}
+use Rattle.std.specs.Prelude.{ℕ, List, [], ◌∷◌, ◌++◌, eqb, length, Result, Ok, Err}
 use Rattle.wire.specs.Choice.{when◌then◌else◌, ◌and◌, Row, row, look}
 use Rattle.wire.specs.Slices.{byte_at, bytes_at, starts_with, fits, placed}
 use Rattle.wire.specs.Numbers.{little, little_bytes}
@@ -7,9 +7,8 @@ use Rattle.wire.specs.Texts.{ascii}
 use Rattle.bot.specs.declared.csw.Status.{Status}
 use Rattle.bot.specs.declared.csw.Status.TheVariants.{Passed, Failed, PhaseError}
 use Rattle.bot.specs.declared.csw.Csw.{Csw}
-use Rattle.bot.specs.declared.csw.CswRead.{CswRead}
-use Rattle.bot.specs.declared.answer.Answer.TheVariants.{Read, Refused}
-use Rattle.bot.specs.Answer.{number_of, Writing, writing}
+use Rattle.bot.specs.declared.refused.Refused.{Refused}
+use Rattle.bot.specs.Answer.{refused, Writing, writing}
 
 -- 55 53 42 53
 abbrev pub csw_signature : List ℕ
@@ -33,30 +32,36 @@ pub record Reading : Type 0 where
   pub number : ℕ
   pub csw : Csw
 
-abbrev pub shown : CswRead → Reading
-shown r = record { number = number_of r.answer; csw = r.csw }
+abbrev pub zero_csw : Csw
+zero_csw = record { tag = 0; residue = 0; status = Passed }
 
-abbrev pub refusal : CswRead
-refusal = record { answer = Refused; csw = record { tag = 0; residue = 0; status = Passed } }
+abbrev pub shown : Result Csw Refused → Reading
+shown (Ok c) = record { number = 1; csw = c }
+shown (Err e) = record { number = 17; csw = zero_csw }
 
-unfoldable pub acceptance : List ℕ → Status → CswRead
-acceptance p s = record {
-  answer = Read;
-  csw = record { tag = little (bytes_at 4 4 p); residue = little (bytes_at 4 8 p); status = s };
-}
+abbrev pub refusal : Result Csw Refused
+refusal = Err refused
+
+-- The fields of a wrapper whose status is readable.
+abbrev pub acceptance : List ℕ → Result Status Refused → Result Csw Refused
+acceptance p (Ok s) = Ok (record { tag = little (bytes_at 4 4 p); residue = little (bytes_at 4 8 p); status = s })
+acceptance p (Err e) = Err e
 
 -- "no other status is readable"
-unfoldable pub statuses : List ℕ → List (Row CswRead)
-statuses p =
-    row (status_code Passed) (acceptance p Passed)
-    ∷ row (status_code Failed) (acceptance p Failed)
-    ∷ row (status_code PhaseError) (acceptance p PhaseError)
+unfoldable pub statuses : List (Row (Result Status Refused))
+statuses =
+    row (status_code Passed) (Ok Passed)
+    ∷ row (status_code Failed) (Ok Failed)
+    ∷ row (status_code PhaseError) (Ok PhaseError)
     ∷ []
+
+unfoldable pub status_of : ℕ → Result Status Refused
+status_of k = look statuses k (Err refused)
 
 unfoldable pub read_csw : List ℕ → Reading
 read_csw p =
     when eqb (length p) 13 and starts_with csw_signature p
-    then shown (look (statuses p) (byte_at p 12) refusal)
+    then shown (acceptance p (status_of (byte_at p 12)))
     else shown refusal
 
 unfoldable pub write_csw : Csw → List ℕ → Writing

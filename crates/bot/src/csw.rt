@@ -1,13 +1,13 @@
 // The status wrapper (BOT 5.2).
 ghost use Rattle.std.specs.Prelude.{◌≡◌};
-ghost use Rattle.bot.specs.Csw.{status_code, csw_bytes, read_csw, refusal, acceptance, shown, write_csw};
+ghost use Rattle.bot.specs.Csw.{status_code, status_of, csw_bytes, read_csw, shown, write_csw};
 ghost use Rattle.bot.specs.Answer.{written};
 
-use crate::answer::Answer;
+use crate::refused::Refused;
 use wire::fields::{le32, put_le32};
 use wire::slices::{put, starts_with};
 
-#[derive(Clone, Copy)]
+#[derive(Clone, Copy, Debug, PartialEq, Eq)]
 pub enum Status {
     Passed,
     Failed,
@@ -26,81 +26,60 @@ impl Status {
     }
 }
 
-#[derive(Clone, Copy)]
+impl TryFrom<u8> for Status {
+    type Error = Refused;
+
+    ghost try_from_gives = { λ code r. r ≡ status_of code };
+
+    fn try_from(code: u8) -> Result<Status, Refused> {
+        match code {
+            0 => Ok(Status::Passed),
+            1 => Ok(Status::Failed),
+            2 => Ok(Status::PhaseError),
+            _ => Err(Refused),
+        }
+    }
+}
+
+#[derive(Clone, Copy, Debug, PartialEq, Eq)]
 pub struct Csw {
     pub tag: u32,
     pub residue: u32,
     pub status: Status,
 }
 
-#[derive(Clone, Copy)]
-pub struct CswRead {
-    pub answer: Answer,
-    pub csw: Csw,
-}
-
 pub fn csw_bytes(csw: Csw) -> [u8; 13]
     ensures { result ≡ csw_bytes csw }
 {
-    let status = csw.status;
     let mut bytes = [0; 13];
     put(&mut bytes, 0, b"USBS");
     put_le32(&mut bytes, 4, csw.tag);
     put_le32(&mut bytes, 8, csw.residue);
-    bytes[12] = status.code();
+    bytes[12] = csw.status.code();
     bytes
 }
 
-fn refused() -> CswRead
-    ensures { result ≡ refusal }
-{
-    CswRead {
-        answer: Answer::Refused,
-        csw: Csw {
-            tag: 0,
-            residue: 0,
-            status: Status::Passed,
-        },
-    }
-}
-
-fn accepted(bytes: &[u8], status: Status) -> CswRead
-    ensures { result ≡ acceptance bytes.now status }
-{
-    CswRead {
-        answer: Answer::Read,
-        csw: Csw {
-            tag: le32(bytes, 4),
-            residue: le32(bytes, 8),
-            status,
-        },
-    }
-}
-
-pub fn read_csw(bytes: &[u8]) -> CswRead
+pub fn read_csw(bytes: &[u8]) -> Result<Csw, Refused>
     ensures { shown result ≡ read_csw bytes.now }
 {
-    if bytes.len() != 13 {
-        return refused();
+    if bytes.len() != 13 || !starts_with(bytes, b"USBS") {
+        return Err(Refused);
     }
-    if !starts_with(bytes, b"USBS") {
-        return refused();
-    }
-    let code = bytes[12];
-    match code {
-        0 => accepted(bytes, Status::Passed),
-        1 => accepted(bytes, Status::Failed),
-        2 => accepted(bytes, Status::PhaseError),
-        _ => refused(),
-    }
+    let status = Status::try_from(bytes[12])?;
+    Ok(Csw {
+        tag: le32(bytes, 4),
+        residue: le32(bytes, 8),
+        status,
+    })
 }
 
-pub fn write_csw(csw: Csw, buffer: &mut [u8]) -> Answer
+pub fn write_csw(csw: Csw, buffer: &mut [u8]) -> Result<usize, Refused>
     ensures { written result buffer.new ≡ write_csw csw buffer.old }
 {
     let bytes = csw_bytes(csw);
     if put(buffer, 0, &bytes) {
-        return Answer::Written { count: 13 };
+        Ok(bytes.len())
+    } else {
+        Err(Refused)
     }
-    Answer::Refused
 }

@@ -2,6 +2,6 @@
 // written. Nothing here knows of SCSI.
 #![tactic(auto)]
 
-pub mod answer;
 pub mod cbw;
 pub mod csw;
+pub mod refused;

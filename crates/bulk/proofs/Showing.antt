@@ -1,14 +1,15 @@
 -- The record's reply as a packet, and what a showing call is once its checks are made. Assumes nothing.
-use Prim.Native.Nat.{ℕ, ◌+◌, ◌≤◌, ◌<◌}
+use Prim.Native.Nat.{ℕ, ◌+◌, min, ◌≤◌}
 use mathlib.Core.Path.{◌≡◌, refl, sym, ap, ◌∙◌}
 use mathlib.Core.Bool.{Bool, true}
 use mathlib.Core.List.{List, []}
 use native.Mathlib.Omega.{arith}
 use lib.Dec.{leb}
 use lib.ListN.{length, take, length-take}
-use lib.Seq.{take_all}
+use Rattle.std.proofs.lemmas.List.{take_min}
+use Rattle.std.specs.declared.result.Result.TheVariants.{Ok, Err}
 use Rattle.wire.specs.Slices.{placed}
-use Rattle.wire.specs.Packet.{packet_of}
+use Rattle.wire.specs.Packet.{packet_of, bytes_of}
 use Rattle.wire.specs.declared.packet.Packet.{Packet}
 use Rattle.wire.proofs.Packets.{Held, held}
 use Rattle.scsi.specs.Reply.{reply_data, reply_packet}
@@ -16,13 +17,11 @@ use Rattle.scsi.specs.declared.reply.Reply as replies
 use Rattle.scsi.proofs.Replies.{reply-short}
 use Rattle.machine.specs.declared.answer.Answer.{Answer}
 use Rattle.machine.specs.declared.answer.Answer.TheVariants.{Data}
-use Rattle.machine.specs.declared.checks.Verdict.{Verdict}
-use Rattle.machine.specs.declared.checks.Verdict.TheVariants.{Passes, Refuses}
 use Rattle.machine.specs.declared.record.Stage.{Stage}
 use Rattle.machine.specs.declared.record.Stage.TheVariants.{Ready, DataOut, DataIn, ReplyIn, StatusDue}
 use Rattle.machine.specs.declared.show.Extent.TheVariants as extent
 use Rattle.machine.specs.World.{World, out, sends}
-use Rattle.machine.specs.Machine.{fitting, in_order}
+use Rattle.machine.specs.Machine.{fitting, Verdict, in_order}
 use Rattle.machine.specs.Bulk.{ask}
 use Rattle.machine.specs.Show.{reply_at, reply_of, show_checks, shown, show_asked, show_judged, show, told_shown, reply_checks}
 use Rattle.state.specs.Gates.{admission}
@@ -51,32 +50,25 @@ no_reply n (DataIn place left) h = refl
 no_reply n (ReplyIn q place left) h = absurd (h q place left refl)
 no_reply n (StatusDue status) h = refl
 
--- The packet k of a whole reply, of which the record has what was sent and what is due.
-module _ (n : ℕ) (g : Stage) (q : replies.Reply) (place left : ℕ) (e : g ≡ ReplyIn q place left) (k : Packet) (z : k ≡ reply_packet n q) where
-  of-reply : Held k (reply_data n q)
-  unfolding reply_packet
-  of-reply = held k (reply_data n q) z (reply-short n q)
-
-  pub reply-room : place + left ≤ k.len → place + left ≤ length k.bytes
-  reply-room l = let r = of-reply.room in omega arith
-
-  pub reply-whole : k.len < place + left → k ≡ packet_of (reply_at n g)
-  unfolding reply_packet reply_at
-  reply-whole l = let c = of-reply.count in z ∙ ap packet_of (sym (ap (reply_at n) e ∙ take_all (place + left) (reply_data n q) (omega arith)))
-
-  pub reply-cut : place + left ≤ k.len → take (place + left) k.bytes ≡ reply_at n g
-  unfolding reply_at
-  reply-cut l = let c = of-reply.count in of-reply.front (place + left) (omega arith) ∙ sym (ap (reply_at n) e)
+-- A whole reply's packet k lends its bytes s: the record's reply is as many of them as were sent and are due.
+pub reply-front : (n : ℕ) (g : Stage) (q : replies.Reply) (place left : ℕ) → g ≡ ReplyIn q place left → (k : Packet) → k ≡ reply_packet n q
+    → (s : List ℕ) → s ≡ bytes_of k → (m : ℕ) → m ≡ min (place + left) (length s) → take m s ≡ reply_at n g
+unfolding reply_packet reply_at
+reply-front n g q place left e k z s f m h =
+    ap (λ (j : ℕ). take j s) h
+    ∙ ap (λ (l : List ℕ). take (min (place + left) (length l)) l) (f ∙ (held k (reply_data n q) z (reply-short n q)).slice)
+    ∙ take_min (place + left) (reply_data n q)
+    ∙ sym (ap (reply_at n) e)
 
 -- ---- the showing call
 
 -- What is shown where the code's verdict ends the call, and where it passes it.
 module _ (v : Verdict) (w : World) (r : List ℕ) (h : admission v ≡ admission (in_order (show_checks w r))) where
-  pub show-ended : (a : Answer) → v ≡ Refuses a → told_shown (shown a w extent.Nowhere) ≡ told_shown (show w r)
+  pub show-ended : (a : Answer) → v ≡ Err a → told_shown (shown a w extent.Nowhere) ≡ told_shown (show w r)
   unfolding show show_judged
   show-ended a z = let f = ended v (in_order (show_checks w r)) a z h in simp (f.is, f.number, f.count)
 
-  pub show-passed : v ≡ Passes → told_shown (show_asked (ask w.dev.state) w) ≡ told_shown (show w r)
+  pub show-passed : v ≡ Ok tt → told_shown (show_asked (ask w.dev.state) w) ≡ told_shown (show w r)
   unfolding show show_judged
   show-passed z = simp (goes_on_lem v (in_order (show_checks w r)) z h)
 

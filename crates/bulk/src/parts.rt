@@ -1,71 +1,73 @@
-// A packet on bulk-out and an ask on bulk-in, over the parts of a collector: identity, state and table by value, the block
-// being gathered lent. Each is one equation with the specification machine, for every input.
-ghost use Rattle.std.specs.Prelude.{◌≡◌, List, [], ℕ};
+// A packet on bulk-out and an ask on bulk-in, over the parts of a collector: its identity, and its state, table and the block
+// being gathered, which are lent. Each is one equation with the specification machine, for every input.
+ghost use Rattle.std.specs.Prelude.{◌*◌, ◌≡◌, List, [], ℕ, eqb};
+ghost use Rattle.wire.specs.Choice.{◌and◌};
+ghost use Rattle.machine.specs.Units.{block_size, total};
 ghost use Rattle.machine.specs.Record.{device};
 ghost use Rattle.machine.specs.World.{world, out};
 ghost use Rattle.machine.specs.Machine.{told, step, bulk_out, bulk_in};
-ghost use Rattle.units.specs.Held.{table_of};
-ghost use Rattle.units.specs.Change.{applied};
 
 use crate::inward::packet_in;
 use crate::outward::packet_out;
-use machine::checks::{Checks, Verdict};
-use machine::record::State;
+use machine::answer::Answer;
+use machine::checks::Checks;
+use machine::record::{LogicalUnit, State};
 use state::fits::fits;
-use state::gate::{Moved, Served, admit};
-use units::change::Change;
-use units::table::{Units, medium_fits};
+use state::gate::admit;
+use units::table::medium_fits;
 use usb::descriptor::Identity;
+
+// Whether a medium of so many bytes fits, beside a record that does. Where the record does not fit, the table may be longer than
+// four units, and no more than four are read.
+pub(crate) fn medium_beside(fits: bool, units: &[LogicalUnit], length: usize) -> bool
+    ensures { result ≡ (fits and eqb length (block_size * total units.now)) }
+{
+    fits && medium_fits(units, length)
+}
 
 // A packet on bulk-out: a wrapper, or data that is stored block by block.
 pub fn out_parts(
     identity: Identity,
-    state: State,
-    units: Units,
+    state: &mut State,
+    units: &mut [LogicalUnit],
     part: &mut [u8; 512],
     medium: &mut [u8],
     packet: &[u8],
-) -> Moved
-    ensures { told (out result.answer (world (device identity result.state part.new) (applied result.change (table_of units)) medium.new) []) ≡ told (step (world (device identity state part.old) (table_of units) medium.old) (bulk_out packet.now)) }
+) -> Answer
+    ensures { told (out result (world (device identity state.new part.new) units.new medium.new) []) ≡ told (step (world (device identity state.old part.old) units.old medium.old) (bulk_out packet.now)) }
 {
+    let fits = fits(identity, *state, units);
     match admit(Checks {
-        fits: fits(identity, state, units),
-        medium: medium_fits(units, medium.len()),
-        buffer: true,
+        fits,
+        medium: medium_beside(fits, units, medium.len()),
         packet: packet.len() <= 64,
-        setup: true,
         configured: state.configured,
-        unit: true,
+        ..Checks::NOTHING
     }) {
-        Verdict::Refuses(answer) => Moved {
-            answer,
-            state,
-            change: Change::Kept,
-        },
-        Verdict::Passes => packet_out(state, units, part, medium, packet),
+        Err(answer) => answer,
+        Ok(()) => packet_out(state, units, part, medium, packet),
     }
 }
 
 // An ask for a packet on bulk-in: data of the medium or of a reply, or the status wrapper.
 pub fn in_parts(
     identity: Identity,
-    state: State,
-    units: Units,
+    state: &mut State,
+    units: &[LogicalUnit],
     medium: &[u8],
     buffer: &mut [u8],
-) -> Served
-    ensures { (p : List ℕ) → told (out result.answer (world (device identity result.state p) (table_of units) medium.now) buffer.new) ≡ told (step (world (device identity state p) (table_of units) medium.now) (bulk_in buffer.old)) }
+) -> Answer
+    ensures { (p : List ℕ) → told (out result (world (device identity state.new p) units.now medium.now) buffer.new) ≡ told (step (world (device identity state.old p) units.now medium.now) (bulk_in buffer.old)) }
 {
+    let fits = fits(identity, *state, units);
     match admit(Checks {
-        fits: fits(identity, state, units),
-        medium: medium_fits(units, medium.len()),
+        fits,
+        medium: medium_beside(fits, units, medium.len()),
         buffer: 64 <= buffer.len(),
-        packet: true,
-        setup: true,
         configured: state.configured,
-        unit: true,
+        ..Checks::NOTHING
     }) {
-        Verdict::Refuses(answer) => Served { answer, state },
-        Verdict::Passes => packet_in(identity, state, units, medium, buffer),
+        Err(answer) => answer,
+        Ok(()) => packet_in(identity, state, units, medium, buffer),
     }
 }

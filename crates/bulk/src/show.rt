@@ -10,29 +10,38 @@ ghost use Rattle.machine.specs.World.{world, out};
 ghost use Rattle.machine.specs.Machine.{told};
 ghost use Rattle.machine.specs.Bulk.{ask};
 ghost use Rattle.machine.specs.Show.{record_reply, bytes_shown, shown, show_asked, show, told_shown, give_reply};
-ghost use Rattle.units.specs.Held.{table_of};
 ghost use Rattle.bulk.specs.Parts.{Askable};
 
 use crate::ask::ask;
+use crate::parts::medium_beside;
 use machine::answer::Answer;
 use machine::ask::{Asked, Source};
-use machine::checks::{Checks, Verdict};
-use machine::record::{Stage, State};
+use machine::checks::Checks;
+use machine::record::{LogicalUnit, Stage, State};
 use machine::show::Extent;
 use scsi::reply::reply_bytes;
 use state::fits::fits;
 use state::gate::admit;
-use units::table::{Units, medium_fits, unit_at};
+use units::table::unit_at;
 use usb::descriptor::Identity;
 use wire::packet::{Packet, packet_of};
 use wire::slices::{part, put_packet, same};
 
-// What a showing call answers, the state that it leaves, and where the packet stands.
+// What a showing call answers, and where the packet stands.
 #[derive(Clone, Copy)]
 pub struct Shown {
     pub answer: Answer,
-    pub state: State,
     pub at: Extent,
+}
+
+// Nothing is shown.
+fn nowhere(answer: Answer) -> Shown
+    ensures { result ≡ record { answer = answer; at = Extent.Nowhere } }
+{
+    Shown {
+        answer,
+        at: Extent::Nowhere,
+    }
 }
 
 // The packet itself, a part of what was lent; empty where it stands nowhere.
@@ -50,24 +59,14 @@ pub fn packet<'a>(at: Extent, medium: &'a [u8], reply: &'a [u8]) -> &'a [u8]
 pub fn record_reply(identity: Identity, state: State) -> Packet
     ensures { result ≡ packet_of (record_reply identity state) }
 {
-    let link = state.link;
-    let task = link.task;
-    let stage = task.stage;
-    match stage {
+    match state.link.task.stage {
         Stage::ReplyIn { reply, place, left } => {
             let whole = reply_bytes(reply, identity.number);
-            let bytes = whole.bytes;
-            let len = whole.len;
             let count = (place as usize) + (left as usize);
-            if len < count {
-                return whole;
-            }
-            packet_of(&bytes[..count])
+            let bytes = whole.as_slice();
+            packet_of(&bytes[..count.min(bytes.len())])
         }
-        _ => Packet {
-            bytes: [0; 64],
-            len: 0,
-        },
+        _ => Packet::EMPTY,
     }
 }
 
@@ -76,47 +75,35 @@ fn is_reply(identity: Identity, state: State, reply: &[u8]) -> bool
     ensures { result ≡ same reply.now (record_reply identity state) }
 {
     let own = record_reply(identity, state);
-    let bytes = own.bytes;
-    let len = own.len;
-    same(reply, &bytes[..len])
+    same(reply, own.as_slice())
 }
 
 // Number 10 of a showing call: the record, the table, then the lent reply.
-fn fits_reply(identity: Identity, state: State, units: Units, reply: &[u8]) -> bool
-    ensures { result ≡ (fits identity state (table_of units) and same reply.now (record_reply identity state)) }
+fn fits_reply(identity: Identity, state: State, units: &[LogicalUnit], reply: &[u8]) -> bool
+    ensures { result ≡ (fits identity state units.now and same reply.now (record_reply identity state)) }
 {
-    if !fits(identity, state, units) {
-        return false;
-    }
-    is_reply(identity, state, reply)
+    fits(identity, state, units) && is_reply(identity, state, reply)
 }
 
 // Once the checks are passed: data is shown where it stands; a status wrapper stands nowhere, so that the caller asks for it.
-fn show_packet(state: State, units: Units) -> Shown
-    requires { Askable state }
-    ensures { (i : devices.Identity) (p m : List ℕ) → shown result.answer (world (device i result.state p) (table_of units) m) result.at ≡ show_asked (ask state) (world (device i state p) (table_of units) m) }
+fn show_packet(state: &mut State, units: &[LogicalUnit]) -> Shown
+    requires { Askable state.old }
+    ensures { (i : devices.Identity) (p m : List ℕ) → shown result.answer (world (device i state.new p) units.now m) result.at ≡ show_asked (ask state.old) (world (device i state.old p) units.now m) }
 {
-    let link = state.link;
-    let task = link.task;
-    let lun = task.lun;
-    match ask(state) {
-        Asked::Quiet { answer } => Shown {
-            answer,
-            state,
-            at: Extent::Nowhere,
-        },
+    match ask(*state) {
+        Asked::Quiet { answer } => nowhere(answer),
         Asked::Packet {
             source,
             state: next,
         } => match source {
             Source::Medium { place, count } => {
                 // A place is the unit's own.
-                let unit = unit_at(units, lun);
+                let unit = unit_at(units, state.link.task.lun);
                 let start = 512 * (unit.first as usize) + (place as usize);
                 let count = count as usize;
+                *state = next;
                 Shown {
                     answer: Answer::Data { count },
-                    state: next,
                     at: Extent::Medium { start, count },
                 }
             }
@@ -127,17 +114,13 @@ fn show_packet(state: State, units: Units) -> Shown
             } => {
                 let start = place as usize;
                 let count = count as usize;
+                *state = next;
                 Shown {
                     answer: Answer::Data { count },
-                    state: next,
                     at: Extent::Reply { start, count },
                 }
             }
-            Source::Status { csw: _ } => Shown {
-                answer: Answer::Nak,
-                state,
-                at: Extent::Nowhere,
-            },
+            Source::Status { csw: _ } => nowhere(Answer::Nak),
         },
     }
 }
@@ -145,51 +128,44 @@ fn show_packet(state: State, units: Units) -> Shown
 // The next packet of data on bulk-in, shown where it stands.
 pub fn show_parts(
     identity: Identity,
-    state: State,
-    units: Units,
+    state: &mut State,
+    units: &[LogicalUnit],
     medium: &[u8],
     reply: &[u8],
 ) -> Shown
-    ensures { (p : List ℕ) → told_shown (shown result.answer (world (device identity result.state p) (table_of units) medium.now) result.at) ≡ told_shown (show (world (device identity state p) (table_of units) medium.now) reply.now) }
+    ensures { (p : List ℕ) → told_shown (shown result.answer (world (device identity state.new p) units.now medium.now) result.at) ≡ told_shown (show (world (device identity state.old p) units.now medium.now) reply.now) }
 {
+    let fits = fits_reply(identity, *state, units, reply);
     match admit(Checks {
-        fits: fits_reply(identity, state, units, reply),
-        medium: medium_fits(units, medium.len()),
-        buffer: true,
-        packet: true,
-        setup: true,
+        fits,
+        medium: medium_beside(fits, units, medium.len()),
         configured: state.configured,
-        unit: true,
+        ..Checks::NOTHING
     }) {
-        Verdict::Refuses(answer) => Shown {
-            answer,
-            state,
-            at: Extent::Nowhere,
-        },
-        Verdict::Passes => show_packet(state, units),
+        Err(answer) => nowhere(answer),
+        Ok(()) => show_packet(state, units),
     }
 }
 
 // The record's reply for a caller to lend: put into its buffer.
-pub fn reply_parts(identity: Identity, state: State, units: Units, buffer: &mut [u8]) -> Answer
-    ensures { (p m : List ℕ) → told (out result (world (device identity state p) (table_of units) m) buffer.new) ≡ told (give_reply (world (device identity state p) (table_of units) m) buffer.old) }
+pub fn reply_parts(
+    identity: Identity,
+    state: State,
+    units: &[LogicalUnit],
+    buffer: &mut [u8],
+) -> Answer
+    ensures { (p m : List ℕ) → told (out result (world (device identity state p) units.now m) buffer.new) ≡ told (give_reply (world (device identity state p) units.now m) buffer.old) }
 {
     match admit(Checks {
         fits: fits(identity, state, units),
-        medium: true,
         buffer: 64 <= buffer.len(),
-        packet: true,
-        setup: true,
-        configured: true,
-        unit: true,
+        ..Checks::NOTHING
     }) {
-        Verdict::Refuses(answer) => answer,
-        Verdict::Passes => {
+        Err(answer) => answer,
+        Ok(()) => {
             let own = record_reply(identity, state);
-            let bytes = own.bytes;
-            let len = own.len;
-            put_packet(buffer, 0, &bytes[..len]);
-            Answer::Data { count: len }
+            put_packet(buffer, 0, own.as_slice());
+            Answer::Data { count: own.len }
         }
     }
 }

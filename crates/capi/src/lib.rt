@@ -9,18 +9,10 @@ ghost use Rattle.machine.specs.Machine as machines;
 ghost use Rattle.cevents.specs.Events.{left, on_record, left_made, on_making};
 ghost use Rattle.cevents.specs.Shown.{left_shown, show_on_record, left_reply, reply_on_record};
 
-use crate::place::place_in;
-use crate::table::{load, pick, settle, settle_one};
-use cevents::show::{alone_show, turn_reply, turn_show};
-use cevents::showing::quick_show;
-use cevents::turn::{
-    alone_in, alone_out, turn_control, turn_in, turn_make, turn_out, turn_reset, turn_switch,
-};
+use cevents::show::{turn_reply, turn_show};
+use cevents::turn::{turn_control, turn_in, turn_make, turn_out, turn_reset, turn_switch};
 use crecord::record::{Given, Record, Shown, Told};
 use machine::record::LogicalUnit;
-
-mod place;
-mod table;
 
 // A collector of these numbers over the table and the medium; a refused making leaves a record of zeros, and the table as it
 // was.
@@ -36,20 +28,13 @@ pub extern "C" fn collector_make(
 ) -> Told
     ensures { left_made result held.new table.new ≡ on_making (record { number = number; vendor = vendor; product = product; release = release }) table.old medium.now }
 {
-    let units = load(table);
-    let made = turn_make(
-        Given {
-            number,
-            vendor,
-            product,
-            release,
-        },
-        units,
-        medium,
-    );
-    *held = made.record;
-    settle(table, made.changed, made.units);
-    made.told
+    let given = Given {
+        number,
+        vendor,
+        product,
+        release,
+    };
+    turn_make(held, given, table, medium)
 }
 
 // No medium is lent to a bus reset, a setting of a switch or a control request: whichever there is stays as it was.
@@ -57,11 +42,7 @@ pub extern "C" fn collector_make(
 pub extern "C" fn collector_bus_reset(held: &mut Record, table: &mut [LogicalUnit]) -> Told
     ensures { (m : List ℕ) → left result held.new table.new m [] ≡ on_record held.old table.old m bus_reset }
 {
-    let units = load(table);
-    let turn = turn_reset(held.given, held.flat, units, &mut held.part);
-    held.flat = turn.flat;
-    settle(table, turn.changed, turn.units);
-    turn.told
+    turn_reset(held, table)
 }
 
 #[unsafe(no_mangle)]
@@ -73,11 +54,7 @@ pub extern "C" fn collector_set_switch(
 ) -> Told
     ensures { (m : List ℕ) → left result held.new table.new m [] ≡ on_record held.old table.old m (set_switch position unit) }
 {
-    let units = load(table);
-    let turn = turn_switch(held.given, held.flat, units, position, unit);
-    held.flat = turn.flat;
-    settle(table, turn.changed, turn.units);
-    turn.told
+    turn_switch(held, table, position, unit)
 }
 
 #[unsafe(no_mangle)]
@@ -89,11 +66,7 @@ pub extern "C" fn collector_control(
 ) -> Told
     ensures { (m : List ℕ) → left result held.new table.new m buffer.new ≡ on_record held.old table.old m (machines.control setup.now buffer.old) }
 {
-    let units = load(table);
-    let turn = turn_control(held.given, held.flat, units, &mut held.part, setup, buffer);
-    held.flat = turn.flat;
-    settle(table, turn.changed, turn.units);
-    turn.told
+    turn_control(held, table, setup, buffer)
 }
 
 #[unsafe(no_mangle)]
@@ -105,18 +78,7 @@ pub extern "C" fn collector_bulk_out(
 ) -> Told
     ensures { left result held.new table.new medium.new [] ≡ on_record held.old table.old medium.old (bulk_out packet.now) }
 {
-    if table.len() == 1 {
-        let unit = pick(table, 0);
-        let turn = alone_out(held.given, held.flat, unit, &mut held.part, medium, packet);
-        held.flat = turn.flat;
-        settle_one(table, turn.changed, turn.units.unit0);
-        return turn.told;
-    }
-    let units = load(table);
-    let turn = turn_out(held.given, held.flat, units, &mut held.part, medium, packet);
-    held.flat = turn.flat;
-    settle(table, turn.changed, turn.units);
-    turn.told
+    turn_out(held, table, medium, packet)
 }
 
 // An ask changes no unit: the table is lent for reading.
@@ -129,20 +91,10 @@ pub extern "C" fn collector_bulk_in(
 ) -> Told
     ensures { left result held.new table.now medium.now buffer.new ≡ on_record held.old table.now medium.now (bulk_in buffer.old) }
 {
-    if table.len() == 1 {
-        let unit = pick(table, 0);
-        let turn = alone_in(held.given, held.flat, unit, medium, buffer);
-        held.flat = turn.flat;
-        return turn.told;
-    }
-    let units = load(table);
-    let turn = turn_in(held.given, held.flat, units, medium, buffer);
-    held.flat = turn.flat;
-    turn.told
+    turn_in(held, table, medium, buffer)
 }
 
-// The next packet of data on bulk-in, shown where it stands. A whole packet of a read is answered by the record's numbers; for
-// all else record and table are read anew.
+// The next packet of data on bulk-in, shown where it stands.
 #[unsafe(no_mangle)]
 pub extern "C" fn collector_show(
     held: &mut Record,
@@ -152,22 +104,7 @@ pub extern "C" fn collector_show(
 ) -> Shown
     ensures { left_shown result held.new table.now medium.now ≡ show_on_record held.old table.now medium.now reply.now }
 {
-    let place = place_in(table, held.flat.lun, medium.len());
-    let quick = quick_show(held.given, held.flat, place, reply.len());
-    if quick.done {
-        held.flat = quick.flat;
-        return quick.shown;
-    }
-    if table.len() == 1 {
-        let unit = pick(table, 0);
-        let turn = alone_show(held.given, held.flat, unit, medium, reply);
-        held.flat = turn.flat;
-        return turn.shown;
-    }
-    let units = load(table);
-    let turn = turn_show(held.given, held.flat, units, medium, reply);
-    held.flat = turn.flat;
-    turn.shown
+    turn_show(held, table, medium, reply)
 }
 
 // The record's reply, for a showing call to be lent it.
@@ -175,6 +112,5 @@ pub extern "C" fn collector_show(
 pub extern "C" fn collector_reply(held: &Record, table: &[LogicalUnit], buffer: &mut [u8]) -> Told
     ensures { (m : List ℕ) → left_reply result buffer.new ≡ reply_on_record held.now table.now m buffer.old }
 {
-    let units = load(table);
-    turn_reply(held.given, held.flat, units, buffer)
+    turn_reply(held, table, buffer)
 }

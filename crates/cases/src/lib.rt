@@ -5,22 +5,24 @@
 ghost use Rattle.std.specs.Prelude.{◌≡◌};
 ghost use Rattle.cases.specs.Cases.{counted, plain, phase_error, same_way, case_of};
 
+use std::cmp::Ordering;
+
 // Data in one direction, with its number of bytes.
-#[derive(Clone, Copy)]
+#[derive(Clone, Copy, Debug, PartialEq, Eq)]
 pub enum Transfer {
     None,
     In(u32),
     Out(u32),
 }
 
-#[derive(Clone, Copy)]
+#[derive(Clone, Copy, Debug, PartialEq, Eq)]
 pub enum Pipe {
     In,
     Out,
 }
 
 // Which pipe is halted, and when: where data moves the halt waits for its end.
-#[derive(Clone, Copy)]
+#[derive(Clone, Copy, Debug, PartialEq, Eq)]
 pub enum Halt {
     None,
     AtOnce(Pipe),
@@ -28,13 +30,13 @@ pub enum Halt {
 }
 
 // The status that the wrapper then gives: what the command itself gives (passed or failed), or a phase error.
-#[derive(Clone, Copy)]
+#[derive(Clone, Copy, Debug, PartialEq, Eq)]
 pub enum Ending {
     Command,
     PhaseError,
 }
 
-#[derive(Clone, Copy)]
+#[derive(Clone, Copy, Debug, PartialEq, Eq)]
 pub struct Case {
     pub moves: Transfer,
     pub halt: Halt,
@@ -46,19 +48,8 @@ fn count_of(transfer: Transfer) -> Transfer
     ensures { result ≡ counted transfer }
 {
     match transfer {
-        Transfer::None => Transfer::None,
-        Transfer::In(n) => {
-            if n == 0 {
-                return Transfer::None;
-            }
-            Transfer::In(n)
-        }
-        Transfer::Out(n) => {
-            if n == 0 {
-                return Transfer::None;
-            }
-            Transfer::Out(n)
-        }
+        Transfer::In(0) | Transfer::Out(0) => Transfer::None,
+        _ => transfer,
     }
 }
 
@@ -86,35 +77,25 @@ fn plain(moves: Transfer, halt: Halt) -> Case
 fn same_way(pipe: Pipe, announced: u32, has: u32, moves: Transfer) -> Case
     ensures { result ≡ same_way pipe announced has moves }
 {
-    if has < announced {
-        return plain(moves, Halt::AfterData(pipe));
+    match has.cmp(&announced) {
+        Ordering::Less => plain(moves, Halt::AfterData(pipe)),
+        Ordering::Equal => plain(moves, Halt::None),
+        Ordering::Greater => phase_error(Halt::AtOnce(pipe)),
     }
-    if has == announced {
-        return plain(moves, Halt::None);
-    }
-    phase_error(Halt::AtOnce(pipe))
 }
 
+#[tactic(auto, unfolding(crate::specs::Cases::case_of, crate::specs::Cases::meeting))]
 pub fn case_of(host: Transfer, device: Transfer) -> Case
     ensures { result ≡ case_of host device }
 {
-    let announced = count_of(host);
-    let has = count_of(device);
-    match announced {
-        Transfer::None => match has {
-            Transfer::None => plain(Transfer::None, Halt::None),
-            Transfer::In(_) => phase_error(Halt::None),
-            Transfer::Out(_) => phase_error(Halt::None),
-        },
-        Transfer::In(n) => match has {
-            Transfer::None => plain(Transfer::None, Halt::AtOnce(Pipe::In)),
-            Transfer::In(d) => same_way(Pipe::In, n, d, Transfer::In(d)),
-            Transfer::Out(_) => phase_error(Halt::AtOnce(Pipe::In)),
-        },
-        Transfer::Out(n) => match has {
-            Transfer::None => plain(Transfer::None, Halt::AtOnce(Pipe::Out)),
-            Transfer::In(_) => phase_error(Halt::AtOnce(Pipe::Out)),
-            Transfer::Out(d) => same_way(Pipe::Out, n, d, Transfer::Out(d)),
-        },
+    match (count_of(host), count_of(device)) {
+        (Transfer::None, Transfer::None) => plain(Transfer::None, Halt::None),
+        (Transfer::None, _) => phase_error(Halt::None),
+        (Transfer::In(_), Transfer::None) => plain(Transfer::None, Halt::AtOnce(Pipe::In)),
+        (Transfer::In(n), Transfer::In(d)) => same_way(Pipe::In, n, d, Transfer::In(d)),
+        (Transfer::In(_), Transfer::Out(_)) => phase_error(Halt::AtOnce(Pipe::In)),
+        (Transfer::Out(_), Transfer::None) => plain(Transfer::None, Halt::AtOnce(Pipe::Out)),
+        (Transfer::Out(_), Transfer::In(_)) => phase_error(Halt::AtOnce(Pipe::Out)),
+        (Transfer::Out(n), Transfer::Out(d)) => same_way(Pipe::Out, n, d, Transfer::Out(d)),
     }
 }

@@ -1,10 +1,10 @@
 pub mod Asked
 pub mod Making
-pub mod Never
+pub mod Options
 pub mod Places
 pub mod Turns
 pub mod ShownTurns
 pub mod Ways
 pub mod Shown
-pub mod Spans
+pub mod Over
 pub mod Due

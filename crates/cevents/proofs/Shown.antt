@@ -4,17 +4,16 @@ use mathlib.Core.Path.{◌≡◌, refl, sym, ap, ◌∙◌}
 use mathlib.Core.Bool.{true}
 use mathlib.Core.List.{List, [], ◌∷◌}
 use native.Mathlib.Omega.{arith}
-use lib.Dec.{eqb}
 use lib.ListN.{length}
 use borrow.Author.Tests.{eqb-true}
 use Rattle.wire.specs.Choice.{◌and◌}
 use Rattle.wire.specs.Slices.{same, starts_with}
-use Rattle.wire.proofs.Cases.{both, by-if, if-true}
+use Rattle.wire.proofs.Cases.{both, if-true}
 use Rattle.machine.specs.declared.answer.Answer.TheVariants.{Data}
 use Rattle.machine.specs.declared.record.State.{State}
 use Rattle.machine.specs.declared.ask.Asked.{Asked}
 use Rattle.machine.specs.declared.show.Extent.TheVariants as extent
-use Rattle.machine.specs.Units.{size_fits, Table}
+use Rattle.machine.specs.Units.{Table}
 use Rattle.machine.specs.Record.{device}
 use Rattle.machine.specs.World.{World, world, in_state}
 use Rattle.machine.specs.Machine.{check, in_order}
@@ -23,11 +22,9 @@ use Rattle.crecord.specs.declared.record.Given.{Given}
 use Rattle.crecord.specs.declared.record.Flat as flats
 use Rattle.crecord.specs.Flat.{identity_from, shown_as, rec}
 use Rattle.cevents.specs.declared.place.Place.{Place}
-use Rattle.cevents.specs.declared.showing.QuickShow.{QuickShow}
 use Rattle.cevents.specs.Shown.{left_shown, leaves_shown, show_on_record}
-use Rattle.cevents.specs.Ways.{Whole, ReadsOn, reads_on, read_on}
-use Rattle.cevents.specs.Quick.{quick_show}
-use Rattle.cevents.proofs.Never.{never}
+use Rattle.cevents.specs.Ways.{Whole, ReadsOn, read_on}
+use Rattle.cevents.specs.Quick.{shows_on}
 use Rattle.cevents.proofs.Due.{reads}
 use Rattle.cevents.proofs.Ways.{served, here, fit, reads_on_lem, after, after-flat, hands}
 
@@ -51,17 +48,12 @@ module _ (g : Given) (f : flats.Flat) (us : Table) (m : List ℕ) (place : Place
         ∙ ap (λ (n : flats.Flat). left_shown (shown_as 0 64 (extent.Medium (in_medium us f.lun f.place) 64)) (rec g n p) us m) (after-flat g f us m place h w)
         ∙ ap (λ (n : ℕ). left_shown (shown_as 0 64 (extent.Medium (512 * n + f.place) 64)) (rec g (read_on f) p) us m) (sym h.first)
 
-  pub quick-shows : (s : List ℕ) → (quick_show g f place (length s)).done ≡ true → (p : List ℕ)
-      → left_shown (quick_show g f place (length s)).shown (rec g (quick_show g f place (length s)).flat p) us m ≡ show_on_record (rec g f p) us m s
-  unfolding quick_show
-  quick-shows s d p =
-      by-if (λ (q : QuickShow). q.done ≡ true → left_shown q.shown (rec g q.flat p) us m ≡ show_on_record (rec g f p) us m s)
-      (eqb (length s) 0 and size_fits place.blocks and reads_on g f place.blocks 64) _ _
-      (λ b _.
+  pub quick-shows : (s p : List ℕ) → shows_on g f place.blocks (length s) ≡ true
+      → left_shown (shown_as 0 64 (extent.Medium (512 * place.first + f.place) 64)) (rec g (read_on f) p) us m ≡ show_on_record (rec g f p) us m s
+  unfolding shows_on
+  quick-shows s p b =
       let t = both _ _ b in
-      sym (shows-on (reads _ _ _ _ (both _ _ t.1).1) p) ∙ ap (show_on_record (rec g f p) us m) (none s (eqb-true _ _ t.0)))
-      (λ _ e. never e)
-      d
+      sym (shows-on (reads _ _ _ _ t.1) p) ∙ ap (show_on_record (rec g f p) us m) (none s (eqb-true _ _ t.0))
     where
       none : (s : List ℕ) → length s ≡ 0 → [] ≡ s
       none [] e = refl

@@ -1,14 +1,12 @@
 -- What an exported function answers and leaves: the machine's step on the record that C's numbers stand for, over the table and the medium that are lent
 -- beside it.
-use Rattle.std.specs.Prelude.{ℕ, Bool, true, false, List}
+use Rattle.std.specs.Prelude.{ℕ, List}
 use Rattle.wire.specs.Choice.{when◌then◌else◌}
 use Rattle.usb.specs.declared.descriptor.Identity.{Identity}
 use Rattle.machine.specs.Units.{Table}
 use Rattle.machine.specs.Making.{ToldMade, make, told_made}
 use Rattle.machine.specs.World.{world}
 use Rattle.machine.specs.Machine.{Event, lent, Told, told, step}
-use Rattle.units.specs.declared.table.Units.{Units}
-use Rattle.units.specs.Held.{put_back}
 use Rattle.crecord.specs.declared.record.Record.{Record}
 use Rattle.crecord.specs.declared.record.Told as tolds
 use Rattle.crecord.specs.Flat.{decodes, world_from, record_of, answer}
@@ -48,8 +46,3 @@ leaves_made t m = left_made (answer t.number 0) (record_of (world t.dev t.units 
 
 unfoldable pub on_making : Identity → Table → List ℕ → LeftMade
 on_making i us m = leaves_made (told_made (make i us m)) m
-
--- The table after a turn that has its units by value, and says whether it changed one: only then is it stored.
-abbrev pub kept : Bool → Table → Units → Table
-kept true us h = put_back us h
-kept false us h = us

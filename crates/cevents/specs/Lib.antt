@@ -1,5 +1,5 @@
 pub mod Events
+pub mod Decoded
 pub mod Shown
-pub mod Spans
 pub mod Ways
 pub mod Quick

@@ -1,5 +1,5 @@
 -- The premises of the quick ways: a whole packet of a read, a whole packet of a write, and the status of a command that passed.
-use Rattle.std.specs.Prelude.{ℕ, ◌+◌, ◌*◌, ◌-◌, ◌≤◌, ◌<◌, ◌≡◌, Bool, true, false, leb, eqb, length}
+use Rattle.std.specs.Prelude.{ℕ, ◌+◌, ◌*◌, ◌-◌, ◌≤◌, ◌<◌, ◌≡◌, Bool, true, leb, eqb, length, Option, Some, None}
 use Rattle.wire.specs.Choice.{when◌then◌else◌, ◌and◌}
 use Rattle.machine.specs.Units.{Table, unit_at, in_table, switches_fit, total, laid_out}
 use Rattle.machine.specs.Fits.{number_fits, out_fits, in_fits}
@@ -9,13 +9,11 @@ use Rattle.cevents.specs.declared.place.Place.{Place}
 
 -- Where unit n lies, in a table that has it and fits over a medium of this size.
 abbrev pub found : Table → ℕ → Place
-found us n = record { whole = true; first = (unit_at us n).first; blocks = (unit_at us n).blocks }
+found us n = record { first = (unit_at us n).first; blocks = (unit_at us n).blocks }
 
-abbrev pub nowhere : Place
-nowhere = record { whole = false; first = 0; blocks = 0 }
-
-unfoldable pub place_in : Table → ℕ → ℕ → Place
-place_in us n medium = when in_table n us and laid_out us and switches_fit us and eqb medium (512 * total us) then found us n else nowhere
+unfoldable pub place_in : Table → ℕ → ℕ → Option Place
+place_in us n medium =
+    when in_table n us and laid_out us and switches_fit us and eqb medium (512 * total us) then Some (found us n) else None
 
 -- The same as facts, of a place that is given.
 pub record Whole (us : Table) (n medium : ℕ) (p : Place) : Type 0 where

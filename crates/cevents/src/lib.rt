@@ -1,10 +1,10 @@
-// Making, the five events and the showing call on the record as C holds it, by value: what the exported functions of `capi` do.
+// Making, the five events and the showing call on the record as C holds it: what the exported functions of `capi` do.
 // Each is one equation with the specification machine, for every input.
 #![tactic(auto)]
 
 mod packets;
-pub mod place;
+mod place;
 mod quick;
 pub mod show;
-pub mod showing;
+mod showing;
 pub mod turn;

@@ -1,13 +1,14 @@
 // The quick ways: the commonest events answered on the record's numbers, undecoded. quick.rt has their tests, place.rt the table's.
-ghost use Rattle.std.specs.Prelude.{◌≡◌, true, false, length};
-ghost use Rattle.crecord.specs.Flat.{answer};
-ghost use Rattle.cevents.specs.Ways.{moved_on, ended};
+ghost use Rattle.std.specs.Prelude.{◌≡◌, ◌+◌, ◌*◌, ◌≤◌, length};
+ghost use Rattle.machine.specs.Units.{most_blocks};
+ghost use Rattle.cevents.specs.Ways.{moved_on, ended, read_on};
 ghost use Rattle.cevents.specs.Quick.{Inside, QuickOut, QuickIn};
 
 use crate::place::Place;
 use crate::quick::{gathers, passes, reads_on};
 use bot::csw::{Csw, Status, csw_bytes};
-use crecord::record::{Flat, Given, Told};
+use crecord::record::{Flat, Record, Told};
+use state::states::wipe;
 use wire::slices::{put, put_packet};
 
 // A transfer of a free device goes on.
@@ -27,12 +28,9 @@ pub(crate) fn moved_on(
         left,
         value,
         extra: 0,
-        tag: flat.tag,
-        announced: flat.announced,
         stage,
         flags: 1,
-        address: flat.address,
-        lun: flat.lun,
+        ..flat
     }
 }
 
@@ -41,98 +39,86 @@ fn ended(flat: Flat) -> Flat
     ensures { result ≡ ended flat }
 {
     Flat {
-        residue: 0,
-        place: 0,
-        left: 0,
-        value: 0,
-        extra: 0,
         tag: 0,
         announced: 0,
-        stage: 0,
-        flags: 1,
-        address: flat.address,
         lun: 0,
+        ..moved_on(flat, 0, 0, 0, 0, 0)
     }
 }
 
-// What a quick way leaves: the event is answered, or nothing was done.
-#[derive(Clone, Copy)]
-pub(crate) struct Quick {
-    pub(crate) done: bool,
-    pub(crate) told: Told,
-    pub(crate) flat: Flat,
-}
-
-// The long way is to be gone.
-fn not_done(flat: Flat) -> Quick
-    ensures { (result.done ≡ false) × (result.flat ≡ flat) }
+// After a whole packet of a read: the status is due, or more of the data.
+pub(crate) fn read_on(flat: Flat) -> Flat
+    requires { (64 ≤ flat.left) × (64 ≤ flat.residue) × (flat.place + 64 ≤ 512 * most_blocks) }
+    ensures { result ≡ read_on flat }
 {
-    Quick {
-        done: false,
-        told: Told {
-            number: 10,
-            count: 0,
-        },
+    if flat.left == 64 {
+        return moved_on(flat, 7, 0, 0, 0, 0);
+    }
+    moved_on(
         flat,
-    }
-}
-
-fn done(number: u32, count: usize, flat: Flat) -> Quick
-    ensures { result ≡ record { done = true; told = answer number count; flat = flat } }
-{
-    Quick {
-        done: true,
-        told: Told { number, count },
-        flat,
-    }
-}
-
-// A whole packet of a write.
-pub(crate) fn quick_out(
-    given: Given,
-    flat: Flat,
-    place: Place,
-    part: &mut [u8; 512],
-    medium: &mut [u8],
-    packet: &[u8],
-) -> Quick
-    ensures { QuickOut given flat place part.old medium.old packet.now result part.new medium.new }
-{
-    let whole = place.whole;
-    if !whole {
-        return not_done(flat);
-    }
-    if !gathers(given, flat, place.blocks, packet.len()) {
-        return not_done(flat);
-    }
-    let held = flat.value;
-    let left = flat.left;
-    let residue = flat.residue;
-    let block = flat.place;
-    put_packet(part, held as usize, packet);
-    if held + 64 < 512 {
-        return done(1, 0, moved_on(flat, 1, residue, block, left, held + 64));
-    }
-    let start = 512 * ((place.first as usize) + (block as usize));
-    put(medium, start, part);
-    *part = [0; 512];
-    if left == 1 {
-        return done(1, 0, moved_on(flat, 7, 0, 0, 0, 0));
-    }
-    done(
-        1,
+        2,
+        flat.residue - 64,
+        flat.place + 64,
+        flat.left - 64,
         0,
-        moved_on(flat, 1, residue - 512, block + 1, left - 1, 0),
     )
 }
 
-// The status of a command that passed.
-fn quick_status(given: Given, flat: Flat, place: Place, medium: &[u8], buffer: &mut [u8]) -> Quick
-    requires { place.whole ≡ true }
-    ensures { QuickIn given flat place medium.now buffer.old result buffer.new }
+// A whole packet of a write; none of any other event, and nothing is done.
+pub(crate) fn quick_out(
+    held: &mut Record,
+    place: Place,
+    medium: &mut [u8],
+    packet: &[u8],
+) -> Option<Told>
+    requires { Inside place (length medium.old) }
+    ensures { QuickOut held.old place medium.old packet.now result held.new medium.new }
 {
-    if !passes(given, flat, buffer.len()) {
-        return not_done(flat);
+    let flat = held.flat;
+    if !gathers(held.given, flat, place.blocks, packet.len()) {
+        return None;
+    }
+    let ack = Told {
+        number: 1,
+        count: 0,
+    };
+    put_packet(&mut held.part, flat.value as usize, packet);
+    if flat.value + 64 < 512 {
+        held.flat = moved_on(
+            flat,
+            1,
+            flat.residue,
+            flat.place,
+            flat.left,
+            flat.value + 64,
+        );
+        return Some(ack);
+    }
+    let start = 512 * ((place.first as usize) + (flat.place as usize));
+    put(medium, start, &held.part);
+    wipe(&mut held.part);
+    if flat.left == 1 {
+        held.flat = moved_on(flat, 7, 0, 0, 0, 0);
+        return Some(ack);
+    }
+    held.flat = moved_on(
+        flat,
+        1,
+        flat.residue - 512,
+        flat.place + 1,
+        flat.left - 1,
+        0,
+    );
+    Some(ack)
+}
+
+// The status of a command that passed.
+fn quick_status(held: &mut Record, place: Place, medium: &[u8], buffer: &mut [u8]) -> Option<Told>
+    ensures { QuickIn held.old place medium.now buffer.old result held.new buffer.new }
+{
+    let flat = held.flat;
+    if !passes(held.given, flat, buffer.len()) {
+        return None;
     }
     let csw = Csw {
         tag: flat.tag,
@@ -140,38 +126,32 @@ fn quick_status(given: Given, flat: Flat, place: Place, medium: &[u8], buffer: &
         status: Status::Passed,
     };
     put(buffer, 0, &csw_bytes(csw));
-    done(0, 13, ended(flat))
+    held.flat = ended(flat);
+    Some(Told {
+        number: 0,
+        count: 13,
+    })
 }
 
-// A whole packet of a read, or the status.
+// A whole packet of a read, or the status; none of any other event, and nothing is done.
 pub(crate) fn quick_in(
-    given: Given,
-    flat: Flat,
+    held: &mut Record,
     place: Place,
     medium: &[u8],
     buffer: &mut [u8],
-) -> Quick
+) -> Option<Told>
     requires { Inside place (length medium.now) }
-    ensures { QuickIn given flat place medium.now buffer.old result buffer.new }
+    ensures { QuickIn held.old place medium.now buffer.old result held.new buffer.new }
 {
-    let whole = place.whole;
-    if !whole {
-        return not_done(flat);
+    let flat = held.flat;
+    if !reads_on(held.given, flat, place.blocks, buffer.len()) {
+        return quick_status(held, place, medium, buffer);
     }
-    if !reads_on(given, flat, place.blocks, buffer.len()) {
-        return quick_status(given, flat, place, medium, buffer);
-    }
-    let at = flat.place;
-    let left = flat.left;
-    let start = 512 * (place.first as usize) + (at as usize);
-    let end = start + 64;
-    put_packet(buffer, 0, &medium[start..end]);
-    if left == 64 {
-        return done(0, 64, moved_on(flat, 7, 0, 0, 0, 0));
-    }
-    done(
-        0,
-        64,
-        moved_on(flat, 2, flat.residue - 64, at + 64, left - 64, 0),
-    )
+    let start = 512 * (place.first as usize) + (flat.place as usize);
+    put_packet(buffer, 0, &medium[start..start + 64]);
+    held.flat = read_on(flat);
+    Some(Told {
+        number: 0,
+        count: 64,
+    })
 }

@@ -1,122 +1,48 @@
 // Where the unit of the command in hand lies, in a table that fits over its medium: what the quick ways ask of the table.
-ghost use Rattle.std.specs.Prelude.{◌+◌, ◌≤◌, ◌≡◌, [], ◌∷◌};
-ghost use Rattle.units.specs.Held.{table_of};
-ghost use Rattle.cevents.specs.Ways.{nowhere, place_in};
-ghost use Rattle.cevents.specs.Spans.{behind, spanned};
+ghost use Rattle.std.specs.Prelude.{◌≡◌, ◌*◌, eqb};
+ghost use Rattle.wire.specs.Choice.{◌and◌};
+ghost use Rattle.machine.specs.Units.{laid_out, switches_fit, total};
+ghost use Rattle.cevents.specs.Ways.{place_in};
 
 use machine::record::LogicalUnit;
-use units::table::{Units, unit_at};
 use units::unit::{size_fits, switch_fits};
 
-// The unit's first block and its size, where the table is whole.
+// The unit's first block and its size.
 #[derive(Clone, Copy)]
-pub struct Place {
-    pub whole: bool,
-    pub first: u32,
-    pub blocks: u32,
+pub(crate) struct Place {
+    pub(crate) first: u32,
+    pub(crate) blocks: u32,
 }
 
-fn nowhere() -> Place
-    ensures { result ≡ nowhere }
+// Whether a table of 1 to 4 units is laid out over a medium of so many bytes, with switches that fit. It is asked before every
+// packet, so it is one pass: `laid_out`, `switches_fit` and `medium_fits`, one after the other, were measured to cost more.
+fn fits_over(units: &[LogicalUnit], medium: usize) -> bool
+    ensures { result ≡ (laid_out units.now and switches_fit units.now and eqb medium (512 * total units.now)) }
 {
-    Place {
-        whole: false,
-        first: 0,
-        blocks: 0,
+    if units.len() < 1 || 4 < units.len() {
+        return false;
     }
+    let mut next = 0;
+    for unit in units {
+        if unit.first != next || !size_fits(unit.blocks) || !switch_fits(unit.switch) {
+            return false;
+        }
+        next += unit.blocks;
+    }
+    medium == 512 * (next as usize)
 }
 
-// The block behind a unit that begins where it should, is of a size within the limit and has a switch that fits; else 0.
-fn end_of(unit: LogicalUnit, start: u64) -> u64
-    requires { start ≤ 12884901885 }
-    ensures { (result ≡ behind unit start) × (result ≤ start + 4294967295) }
+// None where the table, the unit's number or the medium's length does not fit.
+pub(crate) fn place_in(units: &[LogicalUnit], lun: u8, medium: usize) -> Option<Place>
+    ensures { result ≡ place_in units.now lun medium }
 {
-    if (unit.first as u64) != start {
-        return 0;
+    let lun = lun as usize;
+    if units.len() <= lun || !fits_over(units, medium) {
+        return None;
     }
-    if !size_fits(unit.blocks) {
-        return 0;
-    }
-    if !switch_fits(unit.switch) {
-        return 0;
-    }
-    start + (unit.blocks as u64)
-}
-
-// The block behind the last unit of a table that fits; else 0.
-fn end_of_all(units: Units) -> u64
-    ensures { (result ≡ spanned (table_of units)) × (result ≤ 17179869180) }
-{
-    let count = units.count;
-    if count < 1 {
-        return 0;
-    }
-    if 4 < count {
-        return 0;
-    }
-    let first = end_of(units.unit0, 0);
-    if first == 0 {
-        return 0;
-    }
-    if count < 2 {
-        return first;
-    }
-    let second = end_of(units.unit1, first);
-    if second == 0 {
-        return 0;
-    }
-    if count < 3 {
-        return second;
-    }
-    let third = end_of(units.unit2, second);
-    if third == 0 {
-        return 0;
-    }
-    if count < 4 {
-        return third;
-    }
-    end_of(units.unit3, third)
-}
-
-// In a table of one unit.
-pub fn place_alone(unit: LogicalUnit, lun: u8, medium: usize) -> Place
-    ensures { result ≡ place_in (unit ∷ []) lun medium }
-{
-    if lun != 0 {
-        return nowhere();
-    }
-    let end = end_of(unit, 0);
-    if end == 0 {
-        return nowhere();
-    }
-    if (medium as u64) != 512 * end {
-        return nowhere();
-    }
-    Place {
-        whole: true,
-        first: 0,
-        blocks: unit.blocks,
-    }
-}
-
-// In a table of several.
-pub fn place_among(units: Units, lun: u8, medium: usize) -> Place
-    ensures { result ≡ place_in (table_of units) lun medium }
-{
-    if units.count <= (lun as usize) {
-        return nowhere();
-    }
-    let end = end_of_all(units);
-    if end == 0 {
-        return nowhere();
-    }
-    if (medium as u64) != 512 * end {
-        return nowhere();
-    }
-    let unit = unit_at(units, lun);
-    Place {
-        whole: true,
+    let unit = units[lun];
+    Some(Place {
         first: unit.first,
         blocks: unit.blocks,
-    }
+    })
 }

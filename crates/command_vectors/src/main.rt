@@ -3,7 +3,6 @@
 #![tactic(auto)]
 
 mod plans;
-mod print;
 mod replies;
 
 use std::io;

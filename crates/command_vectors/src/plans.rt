@@ -1,87 +1,71 @@
 // What a unit of 128 blocks has for a command block.
-use crate::print::{bytes, end, half, hex, put_u64, text, word};
+use hexprint::Hex;
 use scsi::command::{Plan, block_length, plan_of};
 use scsi::page::Page;
 use scsi::reply::ReplyKind;
 use scsi::sense::Sense;
 use std::io;
 use std::io::Write;
-use wire::fields::put_be16;
 use wire::slices::byte;
 
 fn sense(out: &mut impl Write, s: Sense) -> io::Result<()> {
-    hex(out, s.key)?;
-    hex(out, s.asc)?;
-    hex(out, s.ascq)?;
+    write!(out, "{}", Hex(&[s.key, s.asc, s.ascq]))?;
     if s.is_out_of_range() {
-        text(out, b" block")?;
-        word(out, s.information)?;
+        write!(out, " block{}", Hex(&s.information.to_be_bytes()))?;
     }
     Ok(())
 }
 
-fn reply(out: &mut impl Write, kind: ReplyKind) -> io::Result<()> {
+fn reply(kind: ReplyKind) -> &'static str {
     match kind {
-        ReplyKind::Sense => text(out, b" sense"),
-        ReplyKind::Inquiry => text(out, b" inquiry"),
-        ReplyKind::Page(page) => match page {
-            Page::Supported => text(out, b" page 00"),
-            Page::Serial => text(out, b" page 80"),
-            Page::Identification => text(out, b" page 83"),
-        },
-        ReplyKind::ModeSense => text(out, b" mode sense"),
-        ReplyKind::Capacity => text(out, b" capacity"),
+        ReplyKind::Sense => " sense",
+        ReplyKind::Inquiry => " inquiry",
+        ReplyKind::Page(Page::Supported) => " page 00",
+        ReplyKind::Page(Page::Serial) => " page 80",
+        ReplyKind::Page(Page::Identification) => " page 83",
+        ReplyKind::ModeSense => " mode sense",
+        ReplyKind::Capacity => " capacity",
     }
 }
 
-fn blocks(out: &mut impl Write, block: u32, count: u16) -> io::Result<()> {
-    word(out, block)?;
-    text(out, b" count")?;
-    half(out, count)
+fn blocks(out: &mut impl Write, name: &str, block: u32, count: u16) -> io::Result<()> {
+    write!(
+        out,
+        " {name}{} count{}",
+        Hex(&block.to_be_bytes()),
+        Hex(&count.to_be_bytes())
+    )
 }
 
 fn show(out: &mut impl Write, plan: Plan) -> io::Result<()> {
     match plan {
         Plan::Failed(s) => {
-            text(out, b" failed")?;
+            write!(out, " failed")?;
             sense(out, s)
         }
-        Plan::Nothing => text(out, b" nothing"),
-        Plan::Reply { kind, size } => {
-            text(out, b" reply")?;
-            reply(out, kind)?;
-            hex(out, size)
-        }
-        Plan::Read { block, count } => {
-            text(out, b" read")?;
-            blocks(out, block, count)
-        }
-        Plan::Write { block, count } => {
-            text(out, b" write")?;
-            blocks(out, block, count)
-        }
+        Plan::Nothing => write!(out, " nothing"),
+        Plan::Reply { kind, size } => write!(out, " reply{}{}", reply(kind), Hex(&[size])),
+        Plan::Read { block, count } => blocks(out, "read", block, count),
+        Plan::Write { block, count } => blocks(out, "write", block, count),
     }
 }
 
 // A command block's bytes, how many of them its code needs, and the plan.
 fn planned(out: &mut impl Write, s: &[u8], protected: bool) -> io::Result<()> {
     if protected {
-        text(out, b"protected, ")?;
+        write!(out, "protected, ")?;
     }
-    text(out, b"block")?;
-    bytes(out, s, s.len())?;
-    text(out, b": needs")?;
-    hex(out, block_length(byte(s, 0)))?;
-    text(out, b",")?;
+    let needed = block_length(byte(s, 0));
+    write!(out, "block{}: needs{},", Hex(s), Hex(&[needed]))?;
     show(out, plan_of(s, 128, protected))?;
-    end(out)
+    writeln!(out)
 }
 
 // Ten bytes, written as two numbers.
 fn block_on(out: &mut impl Write, front: u64, back: u16, protected: bool) -> io::Result<()> {
     let mut s = [0; 10];
-    put_u64(&mut s, front);
-    put_be16(&mut s, 8, back);
+    s[..8].copy_from_slice(&front.to_be_bytes());
+    s[8..].copy_from_slice(&back.to_be_bytes());
     planned(out, &s, protected)
 }
 

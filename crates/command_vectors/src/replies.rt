@@ -1,52 +1,52 @@
 // The replies of document 01's commands, the pages of document 02, A2, the write switch of A4 and the block of A8.
-use crate::print::line;
+use hexprint::line;
 use scsi::page::Page;
 use scsi::reply::{Reply, reply_bytes};
 use scsi::sense::Sense;
 use std::io;
 use std::io::Write;
 
-fn capacity(out: &mut impl Write, name: &[u8], blocks: u32) -> io::Result<()> {
+fn capacity(out: &mut impl Write, name: &str, blocks: u32) -> io::Result<()> {
     line(out, name, reply_bytes(Reply::Capacity { blocks }, 42))
 }
 
-fn page(out: &mut impl Write, name: &[u8], page: Page, number: u64) -> io::Result<()> {
+fn page(out: &mut impl Write, name: &str, page: Page, number: u64) -> io::Result<()> {
     line(out, name, reply_bytes(Reply::Page(page), number))
 }
 
-fn mode_sense(out: &mut impl Write, name: &[u8], protected: bool) -> io::Result<()> {
+fn mode_sense(out: &mut impl Write, name: &str, protected: bool) -> io::Result<()> {
     line(out, name, reply_bytes(Reply::ModeSense { protected }, 42))
 }
 
 pub(crate) fn run(out: &mut impl Write) -> io::Result<()> {
-    line(out, b"inquiry:", reply_bytes(Reply::Inquiry, 42))?;
-    page(out, b"page 00:", Page::Supported, 42)?;
-    page(out, b"page 80 of 42:", Page::Serial, 42)?;
+    line(out, "inquiry:", reply_bytes(Reply::Inquiry, 42))?;
+    page(out, "page 00:", Page::Supported, 42)?;
+    page(out, "page 80 of 42:", Page::Serial, 42)?;
     page(
         out,
-        b"page 80 of 999999999999:",
+        "page 80 of 999999999999:",
         Page::Serial,
         999_999_999_999,
     )?;
-    page(out, b"page 83 of 42:", Page::Identification, 42)?;
+    page(out, "page 83 of 42:", Page::Identification, 42)?;
     line(
         out,
-        b"sense 05/21/00, block 128:",
+        "sense 05/21/00, block 128:",
         reply_bytes(Reply::Sense(Sense::out_of_range(128)), 42),
     )?;
     line(
         out,
-        b"sense 05/24/00:",
+        "sense 05/24/00:",
         reply_bytes(Reply::Sense(Sense::INVALID_FIELD), 42),
     )?;
     line(
         out,
-        b"sense 07/27/00:",
+        "sense 07/27/00:",
         reply_bytes(Reply::Sense(Sense::WRITE_PROTECTED), 42),
     )?;
-    mode_sense(out, b"mode sense:", false)?;
-    mode_sense(out, b"mode sense, protected:", true)?;
-    capacity(out, b"capacity of 128:", 128)?;
-    capacity(out, b"capacity of 1048576:", 1_048_576)?;
-    capacity(out, b"capacity of 1:", 1)
+    mode_sense(out, "mode sense:", false)?;
+    mode_sense(out, "mode sense, protected:", true)?;
+    capacity(out, "capacity of 128:", 128)?;
+    capacity(out, "capacity of 1048576:", 1_048_576)?;
+    capacity(out, "capacity of 1:", 1)
 }

@@ -12,8 +12,8 @@ use Rattle.wire.proofs.Cases.{both, and_true, by-if, look_keyed}
 use Rattle.scsi.specs.Sense.{IsSense}
 use Rattle.scsi.specs.declared.sense.Sense.{Sense}
 use Rattle.scsi.specs.declared.reply.Reply.TheVariants as reply
-use Rattle.scsi.specs.declared.page.Listed.{Listed}
-use Rattle.scsi.specs.declared.page.Listed.TheVariants.{Missing, Found}
+use Rattle.std.specs.Prelude.{Option, Some, None}
+use Rattle.scsi.specs.declared.page.Page.{Page}
 use Rattle.scsi.specs.Page.{page_of}
 use Rattle.scsi.proofs.Pages.{code-found, CodeIs, found-code}
 use Rattle.bot.specs.declared.csw.Status.TheVariants.{Passed, Failed, PhaseError}
@@ -125,7 +125,7 @@ stage_back (ReplyIn reply.Inquiry place left) ok = (refl, refl)
 stage_back (ReplyIn (reply.ModeSense protected) place left) ok =
     (and_true _ _ (le-leb _ _ (worth_bit protected 1).1) refl, ap (λ (x : Bool). ReplyIn (reply.ModeSense x) place left) (bit_back protected _ refl))
 stage_back (ReplyIn (reply.Capacity n) place left) ok = (refl, refl)
-stage_back (ReplyIn (reply.Page p) place left) ok = (and_true _ _ (ap is_found (code-found p)) refl, ap (λ (x : Listed). page_stage x place left) (code-found p))
+stage_back (ReplyIn (reply.Page p) place left) ok = (and_true _ _ (ap is_found (code-found p)) refl, ap (λ (x : Option Page). page_stage x place left) (code-found p))
 stage_back (StatusDue Passed) ok = (refl, refl)
 stage_back (StatusDue Failed) ok = (refl, refl)
 stage_back (StatusDue PhaseError) ok = (refl, refl)
@@ -165,9 +165,9 @@ stage_again n =
     page : n.stage ≡ 10 → is_page n.value n.extra ≡ true → numbers_of (page_stage (page_of n.value) n.place n.left) ≡ n
     page e h = let b = both _ _ h in pages (page_of n.value) (found-code n.value) b.0 (zero _ b.1)
       where
-        pages : (x : Listed) → CodeIs n.value x → is_found x ≡ true → 0 ≡ n.extra → numbers_of (page_stage x n.place n.left) ≡ n
-        pages Missing c f z = let z : ◌≡◌ {A = ℕ} 0 1 = cc in absurd (omega arith)
-        pages (Found q) c f z = at e c z
+        pages : (x : Option Page) → CodeIs n.value x → is_found x ≡ true → 0 ≡ n.extra → numbers_of (page_stage x n.place n.left) ≡ n
+        pages None c f z = let z : ◌≡◌ {A = ℕ} 0 1 = cc in absurd (omega arith)
+        pages (Some q) c f z = at e c z
 
     no-transfer : {k : ℕ} → n.stage ≡ k → none n ≡ true → numbers k 0 0 0 0 ≡ n
     no-transfer e h =

@@ -1,12 +1,11 @@
 -- The record as C holds it, numbers alone, and the device's state that they stand for. include/collector.h says the same in words.
-use Rattle.std.specs.Prelude.{ℕ, ◌+◌, ◌/◌, ◌%◌, ◌^◌, Bool, true, false, List, [], ◌∷◌, eqb, leb, ltb}
+use Rattle.std.specs.Prelude.{ℕ, ◌+◌, ◌/◌, ◌%◌, ◌^◌, Bool, true, false, List, [], ◌∷◌, eqb, leb, ltb, Option, Some, None}
 use Rattle.wire.specs.Choice.{when◌then◌else◌, ◌and◌, Row, row, look}
 use Rattle.wire.specs.Bits.{bits}
 use Rattle.wire.specs.Numbers.{little}
 use Rattle.scsi.specs.declared.sense.Sense.{Sense}
 use Rattle.scsi.specs.declared.reply.Reply.TheVariants as reply
-use Rattle.scsi.specs.declared.page.Listed.{Listed}
-use Rattle.scsi.specs.declared.page.Listed.TheVariants.{Missing, Found}
+use Rattle.scsi.specs.declared.page.Page.{Page}
 use Rattle.scsi.specs.Page.{page_code, page_of}
 use Rattle.bot.specs.declared.csw.Status.TheVariants.{Passed, Failed, PhaseError}
 use Rattle.usb.specs.declared.descriptor.Identity.{Identity}
@@ -42,13 +41,13 @@ unfoldable pub sense_from : ℕ → ℕ → Sense
 sense_from v x = record { key = v % 256; asc = v / 256 % 256; ascq = v / 256 ^ 2 % 256; information = x }
 
 -- A page is known by its code.
-abbrev pub is_found : Listed → Bool
-is_found Missing = false
-is_found (Found p) = true
+abbrev pub is_found : Option Page → Bool
+is_found None = false
+is_found (Some p) = true
 
-abbrev pub page_stage : Listed → ℕ → ℕ → Stage
-page_stage Missing place left = Ready
-page_stage (Found p) place left = ReplyIn (reply.Page p) place left
+abbrev pub page_stage : Option Page → ℕ → ℕ → Stage
+page_stage None place left = Ready
+page_stage (Some p) place left = ReplyIn (reply.Page p) place left
 
 -- Of a stage's number: which numbers stand for something, and for which stage.
 pub record Form : Type 0 where

@@ -1,12 +1,13 @@
 // From the numbers that C holds to the device's state.
-ghost use Rattle.std.specs.Prelude.{◌≡◌};
+ghost use Rattle.std.specs.Prelude.{◌≡◌, Some, None};
+ghost use Rattle.wire.specs.Choice.{when◌then◌else◌};
 ghost use Rattle.scsi.specs.Page.{page_of};
-ghost use Rattle.crecord.specs.Flat.{numbers, numbers_in, no_value, no_numbers, is_position, form_of, is_page, page_stage, decodes, sense_from, state_from, identity_from};
+ghost use Rattle.crecord.specs.Flat.{numbers, no_value, no_numbers, is_position, form_of, is_page, page_stage, decodes, sense_from, state_from, identity_from};
 
 use crate::record::{Flat, Given};
 use bot::csw::Status;
 use machine::record::{Link, Stage, State, Task};
-use scsi::page::{Listed, page_of};
+use scsi::page::page_of;
 use scsi::reply::Reply;
 use scsi::sense::Sense;
 use usb::descriptor::Identity;
@@ -15,96 +16,40 @@ use usb::descriptor::Identity;
 fn no_value(value: u32, extra: u32) -> bool
     ensures { result ≡ no_value value extra }
 {
-    if value != 0 {
-        return false;
-    }
-    extra == 0
+    value == 0 && extra == 0
 }
 
 // A stage without a transfer has no numbers.
 fn no_numbers(place: u32, left: u32, value: u32, extra: u32) -> bool
     ensures { result ≡ no_numbers place left value extra }
 {
-    if place != 0 {
-        return false;
-    }
-    if left != 0 {
-        return false;
-    }
-    no_value(value, extra)
+    place == 0 && left == 0 && no_value(value, extra)
 }
 
 // Mode Sense's value is whether the unit is write protected.
 fn is_position(value: u32, extra: u32) -> bool
     ensures { result ≡ is_position value extra }
 {
-    if 1 < value {
-        return false;
-    }
-    extra == 0
+    value <= 1 && extra == 0
 }
 
 // A page is known by its code.
-fn is_page(code: u32, extra: u32) -> bool
-    ensures { result ≡ is_page code extra }
+fn page_stage(code: u32, extra: u32, place: u32, left: u32) -> Option<Stage>
+    ensures { result ≡ (when is_page code extra then Some (page_stage (page_of code) place left) else None) }
 {
-    match page_of(code) {
-        Listed::Missing => false,
-        Listed::Found(_) => extra == 0,
-    }
-}
-
-fn page_stage(code: u32, place: u32, left: u32) -> Stage
-    ensures { result ≡ page_stage (page_of code) place left }
-{
-    match page_of(code) {
-        Listed::Missing => Stage::Ready,
-        Listed::Found(page) => Stage::ReplyIn {
-            reply: Reply::Page(page),
-            place,
-            left,
-        },
-    }
-}
-
-// It takes the numbers one by one, so that they need not be in memory for it.
-fn stage_decodes(stage: u8, place: u32, left: u32, value: u32, extra: u32) -> bool
-    ensures { result ≡ (form_of stage).has (numbers stage place left value extra) }
-{
-    match stage {
-        0 => no_numbers(place, left, value, extra),
-        1 => extra == 0,
-        2 => no_value(value, extra),
-        3 => value < 0x1000000,
-        4 => no_value(value, extra),
-        5 => is_position(value, extra),
-        6 => extra == 0,
-        7 => no_numbers(place, left, value, extra),
-        8 => no_numbers(place, left, value, extra),
-        9 => no_numbers(place, left, value, extra),
-        10 => is_page(value, extra),
-        _ => false,
-    }
-}
-
-pub fn decodes(flat: Flat) -> bool
-    ensures { result ≡ decodes flat }
-{
-    let flags = flat.flags;
-    let unknown = 15 < flags;
-    if unknown {
-        return false;
-    }
-    stage_decodes(flat.stage, flat.place, flat.left, flat.value, flat.extra)
+    let page = page_of(code)?;
+    (extra == 0).then_some(Stage::ReplyIn {
+        reply: Reply::Page(page),
+        place,
+        left,
+    })
 }
 
 // A reply's sense stands in two numbers: its bytes, the key in the lowest, and its information.
 fn sense_from(value: u32, extra: u32) -> Sense
     ensures { result ≡ sense_from value extra }
 {
-    let key = (value % 256) as u8;
-    let asc = (value / 256 % 256) as u8;
-    let ascq = (value / 65536 % 256) as u8;
+    let [key, asc, ascq, _] = value.to_le_bytes();
     Sense {
         key,
         asc,
@@ -113,71 +58,70 @@ fn sense_from(value: u32, extra: u32) -> Sense
     }
 }
 
-fn stage_from(flat: Flat) -> Stage
-    ensures { result ≡ (form_of flat.stage).stage (numbers_in flat) }
+// None, where the numbers stand for no stage. It takes them one by one, so that they need not be in memory for it.
+fn stage_from(stage: u8, place: u32, left: u32, value: u32, extra: u32) -> Option<Stage>
+    ensures { result ≡ (when (form_of stage).has (numbers stage place left value extra) then Some ((form_of stage).stage (numbers stage place left value extra)) else None) }
 {
-    let stage = flat.stage;
-    let place = flat.place;
-    let left = flat.left;
-    let value = flat.value;
-    let extra = flat.extra;
     match stage {
-        0 => Stage::Ready,
-        1 => Stage::DataOut {
+        0 => no_numbers(place, left, value, extra).then_some(Stage::Ready),
+        1 => (extra == 0).then_some(Stage::DataOut {
             block: place,
             left,
             held: value,
-        },
-        2 => Stage::DataIn { place, left },
-        3 => Stage::ReplyIn {
+        }),
+        2 => no_value(value, extra).then_some(Stage::DataIn { place, left }),
+        3 => (value < 0x1000000).then_some(Stage::ReplyIn {
             reply: Reply::Sense(sense_from(value, extra)),
             place,
             left,
-        },
-        4 => Stage::ReplyIn {
+        }),
+        4 => no_value(value, extra).then_some(Stage::ReplyIn {
             reply: Reply::Inquiry,
             place,
             left,
-        },
-        5 => Stage::ReplyIn {
+        }),
+        5 => is_position(value, extra).then_some(Stage::ReplyIn {
             reply: Reply::ModeSense {
                 protected: value == 1,
             },
             place,
             left,
-        },
-        6 => Stage::ReplyIn {
+        }),
+        6 => (extra == 0).then_some(Stage::ReplyIn {
             reply: Reply::Capacity { blocks: value },
             place,
             left,
-        },
-        7 => Stage::StatusDue {
+        }),
+        7 => no_numbers(place, left, value, extra).then_some(Stage::StatusDue {
             status: Status::Passed,
-        },
-        8 => Stage::StatusDue {
+        }),
+        8 => no_numbers(place, left, value, extra).then_some(Stage::StatusDue {
             status: Status::Failed,
-        },
-        9 => Stage::StatusDue {
+        }),
+        9 => no_numbers(place, left, value, extra).then_some(Stage::StatusDue {
             status: Status::PhaseError,
-        },
-        10 => page_stage(value, place, left),
-        _ => Stage::Ready,
+        }),
+        10 => page_stage(value, extra, place, left),
+        _ => None,
     }
 }
 
-// Whether the table has the unit, `fits` asks.
-pub fn state_from(flat: Flat) -> State
-    ensures { result ≡ state_from flat }
+// None, where the numbers stand for no state. Whether the table has the unit, `fits` asks.
+pub fn state_from(flat: Flat) -> Option<State>
+    ensures { result ≡ (when decodes flat then Some (state_from flat) else None) }
 {
-    let flags = flat.flags;
-    let stage = stage_from(flat);
-    State {
+    let unknown = 15 < flat.flags;
+    if unknown {
+        return None;
+    }
+    let stage = stage_from(flat.stage, flat.place, flat.left, flat.value, flat.extra)?;
+    Some(State {
         address: flat.address,
-        configured: flags % 2 == 1,
+        configured: flat.flags % 2 == 1,
         link: Link {
-            haltin: flags / 2 % 2 == 1,
-            haltout: flags / 4 % 2 == 1,
-            locked: flags / 8 % 2 == 1,
+            haltin: flat.flags / 2 % 2 == 1,
+            haltout: flat.flags / 4 % 2 == 1,
+            locked: flat.flags / 8 % 2 == 1,
             task: Task {
                 stage,
                 lun: flat.lun,
@@ -186,16 +130,18 @@ pub fn state_from(flat: Flat) -> State
                 residue: flat.residue,
             },
         },
-    }
+    })
 }
 
-pub fn identity_from(given: Given) -> Identity
-    ensures { result ≡ identity_from given }
-{
-    Identity {
-        number: given.number,
-        vendor: given.vendor,
-        product: given.product,
-        release: given.release,
+impl From<Given> for Identity {
+    ghost from_gives = { λ given identity. identity ≡ identity_from given };
+
+    fn from(given: Given) -> Identity {
+        Identity {
+            number: given.number,
+            vendor: given.vendor,
+            product: given.product,
+            release: given.release,
+        }
     }
 }

@@ -1,11 +1,11 @@
 // From the device's state and answers to the numbers that C holds.
 ghost use Rattle.std.specs.Prelude.{◌≡◌};
-ghost use Rattle.machine.specs.Answer.{refusal_number, number_of, count_of};
+ghost use Rattle.machine.specs.Answer.{number_of, count_of};
 ghost use Rattle.crecord.specs.Flat.{sense_number, worth, flags_of, numbers, numbers_of, flat_of, given_of, answer, source_number, start_of, shown_as};
 
 use crate::record::{Flat, Given, Shown, Told};
 use bot::csw::Status;
-use machine::answer::{Answer, Refusal};
+use machine::answer::Answer;
 use machine::record::{Stage, State};
 use machine::show::Extent;
 use scsi::page::page_code;
@@ -16,26 +16,22 @@ use usb::descriptor::Identity;
 fn sense_number(sense: Sense) -> u32
     ensures { result ≡ sense_number sense }
 {
-    (sense.key as u32) + 256 * ((sense.asc as u32) + 256 * (sense.ascq as u32))
+    u32::from_le_bytes([sense.key, sense.asc, sense.ascq, 0])
 }
 
 fn worth(on: bool, value: u8) -> u8
     ensures { result ≡ worth on value }
 {
-    if on {
-        return value;
-    }
-    0
+    if on { value } else { 0 }
 }
 
 fn flags_of(state: State) -> u8
     ensures { result ≡ flags_of state }
 {
-    let link = state.link;
     worth(state.configured, 1)
-        + worth(link.haltin, 2)
-        + worth(link.haltout, 4)
-        + worth(link.locked, 8)
+        + worth(state.link.haltin, 2)
+        + worth(state.link.haltout, 4)
+        + worth(state.link.locked, 8)
 }
 
 // A stage's number, and the four that it gives a meaning.
@@ -88,89 +84,60 @@ fn numbers_of(stage: Stage) -> Numbers
     }
 }
 
-pub fn flat_of(state: State) -> Flat
-    ensures { result ≡ flat_of state }
-{
-    let link = state.link;
-    let task = link.task;
-    let stage = task.stage;
-    let flags = flags_of(state);
-    let numbers = numbers_of(stage);
-    Flat {
-        residue: task.residue,
-        place: numbers.place,
-        left: numbers.left,
-        value: numbers.value,
-        extra: numbers.extra,
-        tag: task.tag,
-        announced: task.announced,
-        stage: numbers.stage,
-        flags,
-        address: state.address,
-        lun: task.lun,
+impl From<State> for Flat {
+    ghost from_gives = { λ state flat. flat ≡ flat_of state };
+
+    fn from(state: State) -> Flat {
+        let task = state.link.task;
+        let numbers = numbers_of(task.stage);
+        Flat {
+            residue: task.residue,
+            place: numbers.place,
+            left: numbers.left,
+            value: numbers.value,
+            extra: numbers.extra,
+            tag: task.tag,
+            announced: task.announced,
+            stage: numbers.stage,
+            flags: flags_of(state),
+            address: state.address,
+            lun: task.lun,
+        }
     }
 }
 
-pub fn given_of(identity: Identity) -> Given
-    ensures { result ≡ given_of identity }
-{
-    Given {
-        number: identity.number,
-        vendor: identity.vendor,
-        product: identity.product,
-        release: identity.release,
+impl From<Identity> for Given {
+    ghost from_gives = { λ identity given. given ≡ given_of identity };
+
+    fn from(identity: Identity) -> Given {
+        Given {
+            number: identity.number,
+            vendor: identity.vendor,
+            product: identity.product,
+            release: identity.release,
+        }
     }
 }
 
-fn refusal_number(why: Refusal) -> u32
-    ensures { result ≡ refusal_number why }
-{
-    match why {
-        Refusal::Record => 10,
-        Refusal::Medium => 11,
-        Refusal::Buffer => 12,
-        Refusal::Packet => 13,
-        Refusal::Setup => 14,
-        Refusal::Number => 15,
-        Refusal::Unit => 18,
+impl From<Answer> for Told {
+    ghost from_gives = { λ ending told. told ≡ answer (number_of ending) (count_of ending) };
+
+    fn from(ending: Answer) -> Told {
+        Told {
+            number: ending.number(),
+            count: ending.count(),
+        }
     }
 }
 
-pub fn told(ending: Answer) -> Told
-    ensures { result ≡ answer (number_of ending) (count_of ending) }
-{
-    match ending {
-        Answer::Data { count } => Told { number: 0, count },
-        Answer::Ack => Told {
-            number: 1,
-            count: 0,
-        },
-        Answer::Nak => Told {
-            number: 2,
-            count: 0,
-        },
-        Answer::Stall => Told {
-            number: 3,
-            count: 0,
-        },
-        Answer::Silent => Told {
-            number: 4,
-            count: 0,
-        },
-        Answer::Refused { why } => Told {
-            number: refusal_number(why),
-            count: 0,
-        },
-    }
-}
-
+// C's numbers of a place: an Extent has no other.
 fn source_number(at: Extent) -> u32
     ensures { result ≡ source_number at }
 {
     match at {
         Extent::Nowhere => 0,
-        Extent::Medium { start: _, count: _ } => 1,
-        Extent::Reply { start: _, count: _ } => 2,
+        Extent::Medium { .. } => 1,
+        Extent::Reply { .. } => 2,
     }
 }
 
@@ -179,19 +146,17 @@ fn start_of(at: Extent) -> usize
 {
     match at {
         Extent::Nowhere => 0,
-        Extent::Medium { start, count: _ } => start,
-        Extent::Reply { start, count: _ } => start,
+        Extent::Medium { start, .. } | Extent::Reply { start, .. } => start,
     }
 }
 
 pub fn shown(ending: Answer, at: Extent) -> Shown
     ensures { result ≡ shown_as (number_of ending) (count_of ending) at }
 {
-    let told = told(ending);
     Shown {
-        number: told.number,
+        number: ending.number(),
         source: source_number(at),
         start: start_of(at),
-        count: told.count,
+        count: ending.count(),
     }
 }

@@ -6,6 +6,8 @@ use mathlib.Core.List.{List, [], ◌∷◌, ◌++◌}
 use native.Mathlib.Omega.{arith}
 use lib.ListN.{length}
 use borrow.Author.Tests.{le-leb, lt-ltb}
+use Rattle.std.specs.declared.option.Option.{Option}
+use Rattle.std.specs.declared.option.Option.TheVariants.{Some}
 use Rattle.wire.specs.Slices.{zeros}
 use Rattle.wire.proofs.Cases.{both, if-true, if-false}
 use Rattle.scsi.specs.declared.command.Plan.{Plan}
@@ -15,7 +17,6 @@ use Rattle.bot.specs.Cbw.{cbw_signature, header_of}
 use Rattle.bot.specs.declared.csw.Status.TheVariants.{Passed}
 use Rattle.bot.proofs.Wrappers.{readable_long}
 use Rattle.machine.specs.declared.wrapper.Wrapper.{Wrapper}
-use Rattle.machine.specs.declared.wrapper.Wrapper.TheVariants.{Good}
 use Rattle.machine.specs.declared.record.Stage.{Stage}
 use Rattle.machine.specs.declared.record.Stage.TheVariants.{StatusDue}
 use Rattle.machine.specs.declared.answer.Answer.TheVariants.{Ack, Nak}
@@ -23,7 +24,7 @@ use Rattle.machine.specs.Units.{as_made, medium_fits}
 use Rattle.machine.specs.Record.{with_halts, dropped_state}
 use Rattle.machine.specs.World.{World, dropped, Out, out}
 use Rattle.machine.specs.Control.{halt_in, halt_out}
-use Rattle.machine.specs.Wrapper.{accepted, wrapper_of}
+use Rattle.machine.specs.Wrapper.{accepted, wrapper, wrapper_of}
 use Rattle.machine.specs.Bulk.{on_wrapper, out_stage, packet_out}
 use Rattle.machine.specs.Machine.{Event, bulk_out, fitting, checks, effect, step, run}
 use Rattle.machine.specs.Tally.{Making}
@@ -87,13 +88,13 @@ unfolding checks effect
 out_passed w p f n h c = passes w (bulk_out p) (record { fit = f; medium = n; buffer = refl; packet = le-leb (length p) 64 h; setup = refl; configured = c; unit = refl })
 
 -- an accepted wrapper begins its command
-pub taken : (w : World) (p : List ℕ) (x : Plan) → Accepts w p x → step w (bulk_out p) ≡ on_wrapper (Good (header_of p) x) w
+pub taken : (w : World) (p : List ℕ) (x : Plan) → Accepts w p x → step w (bulk_out p) ≡ on_wrapper (Some (wrapper (header_of p) x)) w
 unfolding packet_out out_stage wrapper_of accepted
 taken w p x a =
     out_passed w p a.fit a.medium (let r = readable_long p (both _ _ a.accepts).0 in omega arith) a.due.configured
     ∙ if-false _ _ _ a.due.unhalted
     ∙ ap (λ (g : Stage). out_stage g w p) a.due.ready
-    ∙ ap (λ (y : Wrapper). on_wrapper y w) (if-true _ _ _ a.accepts ∙ ap (Good (header_of p)) a.plan)
+    ∙ ap (λ (y : Option Wrapper). on_wrapper y w) (if-true _ _ _ a.accepts ∙ ap (λ (y : Plan). Some (wrapper (header_of p) y)) a.plan)
 
 -- Test Unit Ready of unit 0, announcing 0
 abbrev test : List ℕ
@@ -105,7 +106,7 @@ good n h = simp (lt-ltb 0 n h)
 
 -- it has no data, and the status is due at once
 abbrev after : World → World
-after w = (on_wrapper (Good (header_of test) Nothing) w).world
+after w = (on_wrapper (Some (wrapper (header_of test) Nothing)) w).world
 
 -- the collector after it: as before, but for the task
 record StatusNext (w w' : World) : Type 0 where
@@ -119,7 +120,7 @@ status_next_lem : (w : World) → StatusNext w (after w)
 unfolding computes
 status_next_lem w = record { configured = refl; haltout = refl; stage = refl; parts = same_parts (after w).units w.units (cleared-sensed w.units 0 _); medium = refl }
 
-acks_test : (w : World) → on_wrapper (Good (header_of test) Nothing) w ≡ out Ack (after w) []
+acks_test : (w : World) → on_wrapper (Some (wrapper (header_of test) Nothing)) w ≡ out Ack (after w) []
 unfolding on_wrapper
 acks_test w = refl
 

@@ -6,6 +6,7 @@ use mathlib.Core.List.{List, [], ◌∷◌}
 use native.Mathlib.Omega.{arith}
 use lib.ListN.{length}
 use borrow.Author.Tests.{le-leb}
+use Rattle.std.specs.declared.result.Result.TheVariants.{Ok, Err}
 use Rattle.wire.specs.Choice.{when◌then◌else◌, ◌and◌}
 use Rattle.wire.specs.Slices.{zeros, same}
 use Rattle.wire.proofs.Cases.{and_false, by-if}
@@ -15,8 +16,6 @@ use Rattle.machine.specs.declared.answer.Answer.{Answer}
 use Rattle.machine.specs.declared.answer.Answer.TheVariants.{Data, Ack, Nak, Stall, Silent, Refused}
 use Rattle.machine.specs.declared.answer.Refusal.TheVariants as refusal
 use Rattle.machine.specs.declared.checks.Checks.{Checks}
-use Rattle.machine.specs.declared.checks.Verdict.{Verdict}
-use Rattle.machine.specs.declared.checks.Verdict.TheVariants.{Passes, Refuses}
 use Rattle.machine.specs.declared.ask.Source.TheVariants as source
 use Rattle.machine.specs.declared.ask.Asked.{Asked}
 use Rattle.machine.specs.declared.ask.Asked.TheVariants.{Quiet, Packet}
@@ -25,7 +24,7 @@ use Rattle.machine.specs.Answer.{count_of}
 use Rattle.machine.specs.Units.{medium_fits}
 use Rattle.machine.specs.World.{World, Out}
 use Rattle.machine.specs.Bulk.{packet_size, ask, packet_in}
-use Rattle.machine.specs.Machine.{Event, bulk_in, lent, fitting, checks, check, in_order, effect, judged, step, seen, Run, run}
+use Rattle.machine.specs.Machine.{Event, bulk_in, lent, fitting, checks, Verdict, check, in_order, effect, judged, step, seen, Run, run}
 use Rattle.machine.specs.Tally.{start}
 use Rattle.machine.specs.Claim.{answers, born, lived, Locks, Demand3}
 use Rattle.machine.specs.Beside.{is_quiet}
@@ -91,8 +90,8 @@ module _ (w : World) (b : List ℕ) where
 -- with a status due
 by_status : (w : World) (v : Verdict) → passing v and hands_status (ask w.dev.state) ≡ true → show_judged v w ≡ shown Nak w extent.Nowhere
 unfolding passing hands_status show_judged show_asked show_from ◌and◌
-by_status w (Refuses a) e = absurd (true≢false (sym e))
-by_status w Passes e = go (ask w.dev.state) e
+by_status w (Err a) e = absurd (true≢false (sym e))
+by_status w (Ok u) e = go (ask w.dev.state) e
   where
     go : (a : Asked) → hands_status a ≡ true → show_asked a w ≡ shown Nak w extent.Nowhere
     go (Quiet a) e = absurd (true≢false (sym e))
@@ -101,7 +100,7 @@ by_status w Passes e = go (ask w.dev.state) e
     go (Packet (source.Status c) s) e = refl
 
 -- with another reply lent
-no_fit : (c : Checks) → c.fits ≡ false → in_order c ≡ Refuses (Refused refusal.Record)
+no_fit : (c : Checks) → c.fits ≡ false → in_order c ≡ Err (Refused refusal.Record)
 unfolding in_order check
 no_fit c e = simp e
 

@@ -6,18 +6,17 @@ use mathlib.Core.List.{List}
 use lib.Dec.{leb}
 use lib.ListN.{length}
 use borrow.Author.Tests.{leb-true}
+use Rattle.std.specs.declared.result.Result.TheVariants.{Ok, Err}
 use Rattle.wire.specs.Choice.{◌and◌}
 use Rattle.wire.proofs.Cases.{both}
 use Rattle.machine.specs.declared.answer.Answer.{Answer}
 use Rattle.machine.specs.declared.answer.Answer.TheVariants.{Silent, Refused}
 use Rattle.machine.specs.declared.answer.Refusal.{Refusal}
 use Rattle.machine.specs.declared.answer.Refusal.TheVariants as refusal
-use Rattle.machine.specs.declared.checks.Verdict.{Verdict}
-use Rattle.machine.specs.declared.checks.Verdict.TheVariants.{Passes, Refuses}
 use Rattle.machine.specs.Answer.{number_of, refusal_number}
 use Rattle.machine.specs.Units.{switch_fits, medium_fits}
 use Rattle.machine.specs.World.{World, Out, out}
-use Rattle.machine.specs.Machine.{Event, bus_reset, control, bulk_out, bulk_in, set_switch, lent, fitting, checks, check, in_order, effect, judged, step}
+use Rattle.machine.specs.Machine.{Event, bus_reset, control, bulk_out, bulk_in, set_switch, lent, fitting, checks, Verdict, check, in_order, effect, judged, step}
 use Rattle.machine.specs.Tally.{is_ack}
 use Rattle.machine.specs.Claim.{is_refusal}
 use Rattle.machine.specs.Beside.{is_quiet}
@@ -52,7 +51,7 @@ beyond_as : (w : World) (e : Event) → (checks w e).unit ≡ false → Barred w
 unfolding is_ack is_quiet
 beyond_as w e n = record { quiet = refl; still = refl; high = refl; number = λ _ u. absurd (true≢false (sym u ∙ n)) }
 
-pub by_verdict : (P : Verdict → Type 0) (w : World) (e : Event) → ((a : Answer) → Barred w e a → P (Refuses a)) → (Passed w e → P Passes) → P (in_order (checks w e))
+pub by_verdict : (P : Verdict → Type 0) (w : World) (e : Event) → ((a : Answer) → Barred w e a → P (Err a)) → (Passed w e → P (Ok tt)) → P (in_order (checks w e))
 unfolding check in_order is_refusal ◌and◌
 by_verdict P w e f g =
     by-check _ _ _ (λ _. f _ (refuses_as w e refusal.Record refl refl))
@@ -64,7 +63,7 @@ by_verdict P w e f g =
     (λ configured. by-check _ _ _ (λ n. f _ (beyond_as w e n))
     (λ unit. g (record { fit = fit; medium = medium; buffer = buffer; packet = packet; setup = setup; configured = configured; unit = unit }))))))))
   where
-    by-check : (b : Bool) (a : Answer) (v : Verdict) → (b ≡ false → P (Refuses a)) → (b ≡ true → P v) → P (check b a v)
+    by-check : (b : Bool) (a : Answer) (v : Verdict) → (b ≡ false → P (Err a)) → (b ≡ true → P v) → P (check b a v)
     by-check true a v x y = y refl
     by-check false a v x y = x refl
 

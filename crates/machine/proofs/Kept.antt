@@ -6,6 +6,8 @@ use mathlib.Core.List.{List, []}
 use lib.Dec.{eqb}
 use lib.ListN.{length}
 use borrow.Author.Tests.{eq-eqb}
+use Rattle.std.specs.declared.option.Option.{Option}
+use Rattle.std.specs.declared.option.Option.TheVariants.{None, Some}
 use Rattle.wire.specs.Choice.{◌and◌}
 use Rattle.wire.specs.Slices.{placed}
 use Rattle.wire.proofs.Cases.{by-if}
@@ -17,7 +19,6 @@ use Rattle.machine.specs.declared.record.Stage.{Stage}
 use Rattle.machine.specs.declared.record.Stage.TheVariants.{Ready, DataOut, DataIn, ReplyIn, StatusDue}
 use Rattle.machine.specs.declared.record.Device.{Device}
 use Rattle.machine.specs.declared.wrapper.Wrapper.{Wrapper}
-use Rattle.machine.specs.declared.wrapper.Wrapper.TheVariants.{Broken, Good}
 use Rattle.machine.specs.declared.ask.Asked.{Asked}
 use Rattle.machine.specs.declared.ask.Asked.TheVariants.{Quiet, Packet}
 use Rattle.machine.specs.Units.{unit_at, part_of}
@@ -58,10 +59,10 @@ unfolding deliver
 asks w b (Quiet a) = refl
 asks w b (Packet x s) = refl
 
-wrappers : (w : World) (x : Wrapper) → (on_wrapper x w).world.medium ≡ w.medium
+wrappers : (w : World) (x : Option Wrapper) → (on_wrapper x w).world.medium ≡ w.medium
 unfolding on_wrapper
-wrappers w Broken = refl
-wrappers w (Good h x) = refl
+wrappers w None = refl
+wrappers w (Some x) = refl
 
 -- ---- one event
 

@@ -8,6 +8,8 @@ use native.Mathlib.Nat.{sub-zero}
 use lib.Dec.{ltb, eqb}
 use lib.ListN.{length, take, drop, set, length-append}
 use borrow.Author.Tests.{leb-true, eqb-false, ltb-true}
+use Rattle.std.specs.declared.option.Option.{Option}
+use Rattle.std.specs.declared.option.Option.TheVariants.{None, Some}
 use Rattle.wire.specs.Choice.{when◌then◌else◌, ◌and◌}
 use Rattle.wire.specs.Slices.{Below}
 use Rattle.wire.proofs.Cases.{by-if, if-true, if-false, both, and_false}
@@ -27,7 +29,6 @@ use Rattle.machine.specs.declared.record.Stage.TheVariants.{Ready, DataOut, Data
 use Rattle.machine.specs.declared.record.Task.{Task}
 use Rattle.machine.specs.declared.record.State.{State}
 use Rattle.machine.specs.declared.wrapper.Wrapper.{Wrapper}
-use Rattle.machine.specs.declared.wrapper.Wrapper.TheVariants.{Broken, Good}
 use Rattle.machine.specs.declared.ask.Source.{Source}
 use Rattle.machine.specs.declared.ask.Source.TheVariants as source
 use Rattle.machine.specs.declared.ask.Asked.{Asked}
@@ -236,14 +237,14 @@ module _ (k : Making) (a : Account) (w : World) (s : Sim k a.log w) (h : Kept a.
     unfolding booked ends entered is_ack when◌then◌else◌
     acked t v e g = comes_to (bulk_out p) _ _ (ap (λ (y : Tally). took_packet y p (arrived_with l (bulk_out p) Ack) x) e) g
 
-    wrappers : Below 256 p → (y : Wrapper) → wrapper_of w.units p ≡ y → l.tally ≡ idle → Paid x.commands x.statuses → Takes (on_wrapper y w)
+    wrappers : Below 256 p → (y : Option Wrapper) → wrapper_of w.units p ≡ y → l.tally ≡ idle → Paid x.commands x.statuses → Takes (on_wrapper y w)
     unfolding on_wrapper locked_state with_halts begun begun_by moved took_packet is_ack
-    wrappers z Broken e i g = quiet (bulk_out p) Stall _ [] refl refl refl
-    wrappers z (Good y c) e i g =
-        let q = (planned w.units p y c e).read in
+    wrappers z None e i g = quiet (bulk_out p) Stall _ [] refl refl refl
+    wrappers z (Some y) e i g =
+        let q = (planned w.units p y.header y.plan e).read in
         acked idle _ i
         (record {
-          stage = first-keeps _ _ c _ (command_of p ∷ x.commands) x.statuses _ (begins_with p _ z (ap (λ (v : Header). v.tag) q) (ap (λ (v : Header). v.announced) q), g);
+          stage = first-keeps _ _ y.plan _ (command_of p ∷ x.commands) x.statuses _ (begins_with p _ z (ap (λ (v : Header). v.tag) q) (ap (λ (v : Header). v.announced) q), g);
           owned = h.owned;
         })
 

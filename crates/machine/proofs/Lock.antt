@@ -5,6 +5,7 @@ use mathlib.Core.Bool.{Bool, true, false, ◌||◌, or-true, true≢false}
 use mathlib.Core.List.{List, []}
 use lib.ListN.{length}
 use lib.Dec.{eqb}
+use Rattle.std.specs.declared.option.Option.{Option}
 use Rattle.wire.specs.Choice.{◌and◌}
 use Rattle.usb.specs.Request.{request_of}
 use Rattle.usb.specs.declared.request.Request.{Request}
@@ -142,7 +143,7 @@ breaks w p n r u =
     (λ a x e. absurd (true≢false (sym (x.number u.configured refl) ∙ e)))
     (λ _ _. if-false w.dev.state.link.haltout _ _ u.unhalted
     ∙ ap (λ (g : Stage). out_stage g w p) u.ready
-    ∙ ap (λ (x : Wrapper). on_wrapper x w) (if-false (accepted (length w.units) p) _ _ n))
+    ∙ ap (λ (x : Option Wrapper). on_wrapper x w) (if-false (accepted (length w.units) p) _ _ n))
     r
 
 pub locks : (w : World) → Locks w

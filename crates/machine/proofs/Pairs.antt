@@ -14,12 +14,11 @@ use Rattle.machine.specs.declared.record.State.{State}
 use Rattle.machine.specs.declared.answer.Answer.{Answer}
 use Rattle.machine.specs.declared.answer.Answer.TheVariants.{Ack}
 use Rattle.machine.specs.declared.checks.Checks.{Checks}
-use Rattle.machine.specs.declared.checks.Verdict.{Verdict}
 use Rattle.machine.specs.Units.{Table}
 use Rattle.machine.specs.Record.{device, with_halts, with_address}
 use Rattle.machine.specs.World.{World, world, dropped, Out, out, sends}
 use Rattle.machine.specs.Control.{needs_configured, endpoint_status, halt_in, halt_out, clear_halt, set_halt, perform}
-use Rattle.machine.specs.Machine.{Event, lent, checks, in_order, effect, judged, step}
+use Rattle.machine.specs.Machine.{Event, lent, checks, Verdict, in_order, effect, judged, step}
 use Rattle.machine.proofs.Judge.{Barred, Passed, by_verdict}
 
 pub pair_if : {A : Type 0} (R : A → A → Type 0) (c c' : Bool) (x y x' y' : A) → c ≡ c' → (c ≡ true → R x x') → (c ≡ false → R y y') → R (when c then x else y) (when c' then x' else y')

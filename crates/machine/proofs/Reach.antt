@@ -8,6 +8,8 @@ use lib.Dec.{leb, ltb, eqb}
 use lib.ListN.{length, drop, set}
 use lib.Seq.{set-get_or}
 use borrow.Author.Tests.{leb-true, leb-false, ltb-true, eqb-true, eqb-false, le-leb, lt-ltb, eq-eqb}
+use Rattle.std.specs.declared.option.Option.{Option}
+use Rattle.std.specs.declared.option.Option.TheVariants.{None, Some}
 use Rattle.wire.specs.Choice.{when◌then◌else◌, ◌and◌}
 use Rattle.wire.proofs.Cases.{both, and_true, and_false, by-if, if-true, if-false}
 use Rattle.scsi.specs.Reply.{kind_of, reply_size}
@@ -34,8 +36,7 @@ use Rattle.machine.specs.declared.record.LogicalUnit.{LogicalUnit}
 use Rattle.machine.specs.declared.record.Link.{Link}
 use Rattle.machine.specs.declared.record.State.{State}
 use Rattle.machine.specs.declared.wrapper.Wrapper.{Wrapper}
-use Rattle.machine.specs.declared.wrapper.Wrapper.TheVariants.{Broken, Good}
-use Rattle.machine.specs.Wrapper.{accepted, plan_for, wrapper_of}
+use Rattle.machine.specs.Wrapper.{accepted, plan_for, wrapper, wrapper_of}
 use Rattle.bot.specs.Cbw.{header_of}
 use Rattle.usb.specs.declared.request.Request.{Request}
 use Rattle.machine.specs.declared.ask.Source.{Source}
@@ -100,22 +101,25 @@ pub record Planned (us : Table) (p : List ℕ) (h : Header) (x : Plan) : Type 0 
   pub listed : in_table h.lun us ≡ true
   pub fits : PlanFits (unit_at us h.lun).blocks x
 
-pub planned : (us : Table) (p : List ℕ) (h : Header) (x : Plan) → wrapper_of us p ≡ Good h x → Planned us p h x
+pub planned : (us : Table) (p : List ℕ) (h : Header) (x : Plan) → wrapper_of us p ≡ Some (wrapper h x) → Planned us p h x
 unfolding wrapper_of accepted
 planned us p h x =
-    by-if (λ (w : Wrapper). w ≡ Good h x → Planned us p h x) (accepted (length us) p) _ _
+    by-if (λ (w : Option Wrapper). w ≡ Some (wrapper h x) → Planned us p h x) (accepted (length us) p) _ _
     (λ a e. subst (λ (y : Plan). Planned us p h y) (plan-same e)
     (subst (λ (y : Header). Planned us p y (plan_for (unit_at us (header_of p).lun) (drop 15 p))) (header-same e)
     (record { read = refl; listed = (both _ _ (both _ _ a).1).0; fits = plan-fits (drop 15 p) (unit_at us (header_of p).lun).blocks _ })))
     (λ _ e. absurd (broken e))
   where
-    plan-same : {a b : Header} {y z : Plan} → Good a y ≡ Good b z → y ≡ z
-    plan-same e = cc
+    same : {v w : Wrapper} → Some v ≡ Some w → v ≡ w
+    same e = cc
 
-    header-same : {a b : Header} {y z : Plan} → Good a y ≡ Good b z → a ≡ b
-    header-same e = cc
+    plan-same : {a b : Header} {y z : Plan} → Some (wrapper a y) ≡ Some (wrapper b z) → y ≡ z
+    plan-same e = ap (λ (w : Wrapper). w.plan) (same e)
 
-    broken : Broken ≡ Good h x → ⊥
+    header-same : {a b : Header} {y z : Plan} → Some (wrapper a y) ≡ Some (wrapper b z) → a ≡ b
+    header-same e = ap (λ (w : Wrapper). w.header) (same e)
+
+    broken : None ≡ Some (wrapper h x) → ⊥
     broken e = let z : ◌≡◌ {A = ℕ} 0 1 = cc in omega arith
 
 -- ---- bounds of a transfer
@@ -262,10 +266,12 @@ module _ (w : World) (f : Fit w) where
     free : s.link.locked ≡ false
     free = unlocked (ap (λ (b : Bool). s.link.haltin and b) o ∙ and_false s.link.haltin)
 
-    wrappers : (x : Wrapper) → wrapper_of us p ≡ x → Kept (on_wrapper x w)
+    wrappers : (x : Option Wrapper) → wrapper_of us p ≡ x → Kept (on_wrapper x w)
     unfolding on_wrapper locked_state begun begun_by begun_unit task_fits ◌and◌
-    wrappers Broken e = halted c true true true (λ _. refl)
-    wrappers (Good h x) e =
+    wrappers None e = halted c true true true (λ _. refl)
+    wrappers (Some y) e =
+        let h = y.header in
+        let x = y.plan in
         let q = planned us p h x e in
         moves c free _ _ _ _ _ _ (cleared-sensed us h.lun _)
         (and_true _ _ q.listed (case_fits _ x _ h.announced _ q.fits (case_follows h x)))

@@ -7,6 +7,7 @@ use native.Mathlib.Omega.{arith}
 use lib.Dec.{ltb}
 use lib.ListN.{length, take, drop, set, length-take}
 use borrow.Author.Tests.{ne_eqb, le-leb}
+use Rattle.std.specs.declared.option.Option.TheVariants.{Some}
 use Rattle.wire.specs.Slices.{placed}
 use Rattle.wire.proofs.Cases.{by-if, if-true, if-false}
 use Rattle.scsi.specs.Command.{cut}
@@ -32,12 +33,12 @@ use Rattle.machine.specs.declared.record.Stage.{Stage}
 use Rattle.machine.specs.declared.record.Stage.TheVariants.{ReplyIn, StatusDue}
 use Rattle.machine.specs.declared.record.State.{State}
 use Rattle.machine.specs.declared.record.LogicalUnit.{LogicalUnit}
-use Rattle.machine.specs.declared.wrapper.Wrapper.TheVariants.{Good}
 use Rattle.machine.specs.declared.ask.Asked.{Asked}
 use Rattle.machine.specs.declared.answer.Answer.TheVariants.{Data, Ack}
 use Rattle.machine.specs.Record.{moved, task, with_state}
 use Rattle.machine.specs.Units.{unit_at, as_made, medium_fits}
 use Rattle.machine.specs.World.{World, world, in_state, Out, out, sends}
+use Rattle.machine.specs.Wrapper.{wrapper}
 use Rattle.machine.specs.Begin.{host_of, has_of, own_status, reply_of, data_stage, first_stage, halts_in, halts_out, staged, begun_by, begun, begun_unit}
 use Rattle.machine.specs.Bulk.{on_wrapper, next_in, handed_state, next_packet, ask_stage, ask, bytes_of, deliver, packet_in}
 use Rattle.machine.specs.Machine.{bulk_out, bulk_in, fitting, checks, effect, step}
@@ -58,7 +59,7 @@ same_size w p k allocated = length-take (min allocated (length (whole w p k))) (
 
 -- ---- the wrapper
 
-asked : (w : World) (p : List ℕ) (k : ReplyKind) (allocated : ℕ) → Asks w p k allocated → step w (bulk_out p) ≡ on_wrapper (Good (header_of p) (Reply k (min allocated (reply_size k)))) w
+asked : (w : World) (p : List ℕ) (k : ReplyKind) (allocated : ℕ) → Asks w p k allocated → step w (bulk_out p) ≡ on_wrapper (Some (wrapper (header_of p) (Reply k (min allocated (reply_size k))))) w
 unfolding cut
 asked w p k allocated a = taken w p _ a
 

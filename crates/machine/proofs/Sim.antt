@@ -8,6 +8,8 @@ use lib.ListN.{length, set, length-append}
 use lib.Seq.{set-get_or}
 use lib.Dec.{leb, ltb, eqb, lit<}
 use borrow.Author.Tests.{eqb-true, eq-eqb, ne_eqb, ltb-true, ltb-false, leb-false}
+use Rattle.std.specs.declared.option.Option.{Option}
+use Rattle.std.specs.declared.option.Option.TheVariants.{None, Some}
 use Rattle.wire.specs.Choice.{when◌then◌else◌}
 use Rattle.wire.specs.Slices.{zeros, placed}
 use Rattle.wire.proofs.Cases.{by-if, if-true, if-false}
@@ -23,7 +25,6 @@ use Rattle.machine.specs.declared.record.Device.{Device}
 use Rattle.machine.specs.declared.ask.Source.{Source}
 use Rattle.machine.specs.declared.ask.Asked as asking
 use Rattle.machine.specs.declared.wrapper.Wrapper.{Wrapper}
-use Rattle.machine.specs.declared.wrapper.Wrapper.TheVariants.{Broken, Good}
 use Rattle.machine.specs.declared.answer.Answer.{Answer}
 use Rattle.machine.specs.declared.answer.Answer.TheVariants.{Data, Ack, Nak, Stall}
 use Rattle.machine.specs.Units.{Table, unit_at, cleared, switched_to, as_made, part_of, with_part}
@@ -281,11 +282,13 @@ module _ (k : Making) (l : Log) (w : World) (s : Sim k l w) where
         loud (bulk_out p) w' (subst (λ (x : Log). Sim k x w') (sym f') a)
 
     -- the packet is a wrapper
-    wrappers : (x : Wrapper) → wrapper_of l.units p ≡ x → l.tally ≡ idle → d.part ≡ zeros 512 → Taken (on_wrapper x w)
+    wrappers : (x : Option Wrapper) → wrapper_of l.units p ≡ x → l.tally ≡ idle → d.part ≡ zeros 512 → Taken (on_wrapper x w)
     unfolding on_wrapper locked_state begun begun_by begun_unit taken beginning stored is_ack
-    wrappers Broken e i z = quiet (bulk_out p) Stall _ refl (halted true true true)
-    wrappers (Good h c) e i z =
-        packet idle (turned l (write_of h c) []) _ i (ap (λ (x : Wrapper). turned l (beginning x) []) e)
+    wrappers None e i z = quiet (bulk_out p) Stall _ refl (halted true true true)
+    wrappers (Some x) e i z =
+        let h = x.header in
+        let c = x.plan in
+        packet idle (turned l (write_of h c) []) _ i (ap (λ (x : Option Wrapper). turned l (beginning x) []) e)
         (moves (write_of h c) [] _ _ _ d.part _ w.medium (begun_together d.part (grant h c _) z) (cleared-sensed us h.lun _) refl)
 
     -- the packet is data: it goes behind what is held

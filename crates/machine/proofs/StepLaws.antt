@@ -8,6 +8,7 @@ use native.Mathlib.Nat.{zero-add}
 use lib.ListN.{length, take, drop, set, length-take}
 use lib.Seq.{set-get_or}
 use borrow.Author.Tests.{ltb-true}
+use Rattle.std.specs.declared.option.Option.TheVariants.{Some}
 use Rattle.wire.specs.Numbers.{low}
 use Rattle.wire.proofs.Cases.{by-if, both}
 use Rattle.wire.proofs.Lists.{placed_yes}
@@ -26,14 +27,13 @@ use Rattle.machine.specs.declared.record.Stage.{Stage}
 use Rattle.machine.specs.declared.record.Stage.TheVariants.{Ready, DataOut, DataIn, ReplyIn, StatusDue}
 use Rattle.machine.specs.declared.record.Task.{Task}
 use Rattle.machine.specs.declared.record.State.{State}
-use Rattle.machine.specs.declared.wrapper.Wrapper.TheVariants.{Good}
 use Rattle.machine.specs.declared.ask.Source.{Source}
 use Rattle.machine.specs.declared.ask.Asked.{Asked}
 use Rattle.machine.specs.declared.answer.Answer.TheVariants.{Data, Nak}
 use Rattle.machine.specs.Units.{Table, unit, unit_at, with_sense, with_part}
 use Rattle.machine.specs.Record.{device, task, no_task, with_halts, with_address, moved}
 use Rattle.machine.specs.World.{World, world, in_state, dropped, switched, Out, out, sends, UnitOut, in_unit}
-use Rattle.machine.specs.Wrapper.{accepted, plan_for, wrapper_of}
+use Rattle.machine.specs.Wrapper.{accepted, plan_for, wrapper, wrapper_of}
 use Rattle.machine.specs.Control.{reset}
 use Rattle.machine.specs.Bulk.{locked_state, on_wrapper, cut_short, gathered_state, gathered, next_out, stored_state, stored_block, on_data, out_stage, packet_out, next_in, handed_state, next_packet, after_status, ask_stage, ask, bytes_of, deliver, packet_in}
 use Rattle.machine.specs.Machine.{Event, bus_reset, control, bulk_out, bulk_in, set_switch, lent, effect, step}
@@ -64,7 +64,7 @@ sensed_at us n s = set us n (with_sense (unit_at us n) s)
 pub data Changed (w : World) : Event → World → Type 0 where
   moves : {e : Event} (s : State) (p m : List ℕ) → Later w.dev.state.link.task s.link.task → Changed w e (world (device w.dev.identity s p) w.units m)
   drops : {e : Event} (a : ℕ) (c hi ho : Bool) → Changed w e (dropped w a c hi ho)
-  begins : {e : Event} (h : Header) (b : List ℕ) → h.lun < length w.units → Changed w e (on_wrapper (Good h (plan_for (unit_at w.units h.lun) b)) w).world
+  begins : {e : Event} (h : Header) (b : List ℕ) → h.lun < length w.units → Changed w e (on_wrapper (Some (wrapper h (plan_for (unit_at w.units h.lun) b))) w).world
   turns : (x n : ℕ) → Changed w (set_switch x n) (switched w x n)
   cuts : {e : Event} (m : List ℕ) → Changed w e (world (cut_short w.dev) (sensed_at w.units w.dev.state.link.task.lun data_phase) m)
 

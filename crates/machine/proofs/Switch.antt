@@ -6,6 +6,7 @@ use mathlib.Core.List.{List, [], ◌∷◌}
 use lib.Dec.{eqb, ltb}
 use lib.ListN.{length, take, drop, set}
 use lib.Seq.{set-get_or}
+use Rattle.std.specs.declared.result.Result.TheVariants.{Ok}
 use Rattle.wire.specs.Choice.{when◌then◌else◌, ◌and◌}
 use Rattle.wire.specs.Slices.{placed}
 use Rattle.scsi.specs.Sense.{data_phase}
@@ -21,7 +22,6 @@ use Rattle.machine.specs.declared.ask.Asked.{Asked}
 use Rattle.machine.specs.declared.ask.Asked.TheVariants.{Quiet, Packet}
 use Rattle.machine.specs.declared.answer.Answer.TheVariants.{Ack, Refused}
 use Rattle.machine.specs.declared.answer.Refusal.TheVariants as refusal
-use Rattle.machine.specs.declared.checks.Verdict.TheVariants.{Passes}
 use Rattle.machine.specs.Units.{block_size, switch_fits, Table, unit_at, in_table, with_sense, with_switch, switched_to, as_made, medium_fits, part_of, with_part}
 use Rattle.machine.specs.Fits.{is_ready}
 use Rattle.machine.specs.World.{World, world, in_state, dropped, switched, Out, out, sends, UnitOut, unit_out, in_unit}
@@ -48,7 +48,7 @@ unfolding step checks check in_order effect judged lent when◌then◌else◌
 sets w x n = go (fitting w and switch_fits x) (in_table n w.units)
   where
     go : (b c : Bool)
-        → judged (check b (Refused refusal.Record) (check c (Refused refusal.Unit) Passes)) w [] (out Ack (switched w x n) [])
+        → judged (check b (Refused refusal.Record) (check c (Refused refusal.Unit) (Ok tt))) w [] (out Ack (switched w x n) [])
         ≡ (when b then (when c then out Ack (switched w x n) [] else out (Refused refusal.Unit) w []) else out (Refused refusal.Record) w [])
     go true true = refl
     go true false = refl

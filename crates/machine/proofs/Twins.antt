@@ -7,6 +7,8 @@ use native.Mathlib.Omega.{arith}
 use lib.Dec.{leb, ltb, eqb}
 use lib.ListN.{length, take, drop, set}
 use borrow.Author.Tests.{leb-true, leb-false, eqb-true, eqb-false}
+use Rattle.std.specs.declared.option.Option.{Option}
+use Rattle.std.specs.declared.option.Option.TheVariants.{None, Some}
 use Rattle.wire.specs.Choice.{when◌then◌else◌}
 use Rattle.wire.specs.Slices.{placed}
 use Rattle.wire.proofs.Cases.{by-if, if-false, both}
@@ -30,7 +32,6 @@ use Rattle.machine.specs.declared.record.Stage.TheVariants.{Ready, DataOut, Data
 use Rattle.machine.specs.declared.record.Task.{Task}
 use Rattle.machine.specs.declared.record.State.{State}
 use Rattle.machine.specs.declared.wrapper.Wrapper.{Wrapper}
-use Rattle.machine.specs.declared.wrapper.Wrapper.TheVariants.{Broken, Good}
 use Rattle.machine.specs.declared.ask.Source as asking
 use Rattle.machine.specs.declared.ask.Source.TheVariants as bytes
 use Rattle.machine.specs.declared.ask.Asked.{Asked}
@@ -41,7 +42,7 @@ use Rattle.machine.specs.Units.{block_size, Table, unit_at, as_made, total, laid
 use Rattle.machine.specs.Record.{device, with_halts, dropped_state, moved}
 use Rattle.machine.specs.Fits.{in_fits, stage_fits}
 use Rattle.machine.specs.World.{World, world, in_state, dropped, Out, out, sends, UnitOut, in_unit}
-use Rattle.machine.specs.Wrapper.{wrapper_of}
+use Rattle.machine.specs.Wrapper.{wrapper, wrapper_of}
 use Rattle.machine.specs.Control.{reset}
 use Rattle.machine.specs.Begin.{host_of, has_of, data_stage, first_stage, staged, begun_by, begun}
 use Rattle.machine.specs.Bulk.{locked_state, on_wrapper, cut_state, cut_short, gathered_state, gathered, next_out, stored_state, stored_block, on_data, out_stage, packet_out, next_in, handed_state, next_packet, after_status, csw_of, ask_stage, ask, bytes_of, deliver, packet_in}
@@ -247,14 +248,16 @@ module _ (k : Making) (b : ℕ) (x : Source) (l : Log) (i : Identity) (s : State
     ignored a h = even (bulk_out q) a s us [] refl (if-false _ _ _ h)
 
     -- a wrapper, where no write is under way
-    source-of : (h : Header) (y : Plan) → wrapper_of us q ≡ Good h y → l.tally ≡ idle → reads l (bulk_out q) Ack x ≡ read_of h y
+    source-of : (h : Header) (y : Plan) → wrapper_of us q ≡ Some (wrapper h y) → l.tally ≡ idle → reads l (bulk_out q) Ack x ≡ read_of h y
     unfolding reads is_ack when◌then◌else◌ source_after source_of
     source-of h y e i = ap (λ (t : Tally). source_after t l.units q x) i ∙ ap source_of (same_wrapper k l w sim q ∙ e)
 
-    wrappers : (v : Wrapper) → wrapper_of us q ≡ v → l.tally ≡ idle → p ≡ p' → Takes (on_wrapper v w) (on_wrapper v w')
+    wrappers : (v : Option Wrapper) → wrapper_of us q ≡ v → l.tally ≡ idle → p ≡ p' → Takes (on_wrapper v w) (on_wrapper v w')
     unfolding on_wrapper locked_state with_halts begun begun_by moved reads is_ack when◌then◌else◌
-    wrappers Broken e i f = even (bulk_out q) Stall _ us [] refl refl
-    wrappers (Good h y) e i f =
+    wrappers None e i f = even (bulk_out q) Stall _ us [] refl refl
+    wrappers (Some v) e i f =
+        let h = v.header in
+        let y = v.plan in
         goes (bulk_out q) Ack _ _ p p' m m' [] (λ _. f) apart
         (subst (Shape (staged (case_of (host_of h) (has_of y)).ending (case_of (host_of h) (has_of y)).moves y (unit_at us h.lun)) h.lun) (sym (source-of h y e i))
         (first_shape (case_of (host_of h) (has_of y)).ending (case_of (host_of h) (has_of y)).moves y h (unit_at us h.lun)))

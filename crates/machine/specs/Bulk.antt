@@ -1,5 +1,5 @@
 -- Bulk packets (document 01, "Wrappers" and "The thirteen meetings of host and device"), once their checks are passed.
-use Rattle.std.specs.Prelude.{ℕ, ◌+◌, ◌*◌, ◌-◌, min, Bool, true, List, [], leb, ltb, eqb, length, take, drop, set}
+use Rattle.std.specs.Prelude.{ℕ, ◌+◌, ◌*◌, ◌-◌, min, Bool, true, List, [], leb, ltb, eqb, length, take, drop, set, Option, Some, None}
 use Rattle.wire.specs.Choice.{when◌then◌else◌}
 use Rattle.wire.specs.Slices.{zeros, placed}
 use Rattle.scsi.specs.Reply.{reply_data}
@@ -15,7 +15,6 @@ use Rattle.machine.specs.declared.record.Task.{Task}
 use Rattle.machine.specs.declared.record.State.{State}
 use Rattle.machine.specs.declared.record.Device.{Device}
 use Rattle.machine.specs.declared.wrapper.Wrapper.{Wrapper}
-use Rattle.machine.specs.declared.wrapper.Wrapper.TheVariants.{Broken, Good}
 use Rattle.machine.specs.declared.ask.Source.{Source}
 use Rattle.machine.specs.declared.ask.Source.TheVariants as source
 use Rattle.machine.specs.declared.ask.Asked.{Asked}
@@ -36,11 +35,11 @@ packet_size = 64
 unfoldable pub locked_state : State → State
 locked_state s = with_halts s true true true
 
-unfoldable pub on_wrapper : Wrapper → World → Out
-on_wrapper Broken w = out Stall (in_state w (locked_state w.dev.state)) []
-on_wrapper (Good h p) w =
-    let u = unit_at w.units h.lun in
-    out Ack (world (with_state w.dev (begun h p w.dev.state u)) (set w.units h.lun (begun_unit h p u)) w.medium) []
+unfoldable pub on_wrapper : Option Wrapper → World → Out
+on_wrapper None w = out Stall (in_state w (locked_state w.dev.state)) []
+on_wrapper (Some x) w =
+    let u = unit_at w.units x.header.lun in
+    out Ack (world (with_state w.dev (begun x.header x.plan w.dev.state u)) (set w.units x.header.lun (begun_unit x.header x.plan u)) w.medium) []
 
 -- The task with another stage and residue.
 abbrev pub onward : State → Stage → ℕ → Task

@@ -1,11 +1,9 @@
 -- The showing call beside the copying one (document 02, A11): what both leave, and lists of calls in which either is used. Proved in proofs/EitherCall.antt.
-use Rattle.std.specs.Prelude.{ℕ, ◌≡◌, Bool, true, false, not, ◌||◌, List, [], ◌∷◌, length}
+use Rattle.std.specs.Prelude.{ℕ, ◌≡◌, Bool, true, false, not, ◌||◌, List, [], ◌∷◌, length, Ok, Err}
 use Rattle.wire.specs.Choice.{when◌then◌else◌, ◌and◌}
 use Rattle.wire.specs.Slices.{zeros, placed, same}
 use Rattle.machine.specs.declared.answer.Answer.TheVariants.{Nak, Refused}
 use Rattle.machine.specs.declared.answer.Refusal.TheVariants as refusal
-use Rattle.machine.specs.declared.checks.Verdict.{Verdict}
-use Rattle.machine.specs.declared.checks.Verdict.TheVariants.{Passes, Refuses}
 use Rattle.machine.specs.declared.ask.Source.TheVariants as source
 use Rattle.machine.specs.declared.ask.Asked.{Asked}
 use Rattle.machine.specs.declared.ask.Asked.TheVariants.{Quiet, Packet}
@@ -13,7 +11,7 @@ use Rattle.machine.specs.declared.show.Extent.TheVariants as extent
 use Rattle.machine.specs.Answer.{count_of}
 use Rattle.machine.specs.World.{World, Out, out}
 use Rattle.machine.specs.Bulk.{packet_size, ask}
-use Rattle.machine.specs.Machine.{Event, bulk_in, in_order, seen, Run, step, run}
+use Rattle.machine.specs.Machine.{Event, bulk_in, Verdict, in_order, seen, Run, step, run}
 use Rattle.machine.specs.Show.{reply_of, show_checks, bytes_shown, Shown, shown, show}
 use Rattle.machine.specs.Tally.{Making, start}
 use Rattle.machine.specs.Claim.{answers, born, Makes, Recovers, Locks}
@@ -30,8 +28,8 @@ hands_status (Packet (source.Reply reply place n) s) = false
 hands_status (Packet (source.Status csw) s) = true
 
 unfoldable pub passing : Verdict → Bool
-passing Passes = true
-passing (Refuses a) = false
+passing (Ok u) = true
+passing (Err a) = false
 
 -- The checks are passed, and the copying call would hand out the status wrapper.
 unfoldable pub status_next : World → Bool

@@ -1,5 +1,5 @@
 -- The units keep apart (document 02, A7): what a step may write, and what one unit's data can show to the others. Proved in proofs/Kept.antt and proofs/Isolation.antt.
-use Rattle.std.specs.Prelude.{ℕ, ◌≡◌, Bool, true, false, List, [], ◌∷◌, eqb, length}
+use Rattle.std.specs.Prelude.{ℕ, ◌≡◌, Bool, true, false, List, [], ◌∷◌, eqb, length, Option, Some, None}
 use Rattle.wire.specs.Choice.{when◌then◌else◌, ◌and◌}
 use Rattle.scsi.specs.declared.command.Plan.{Plan}
 use Rattle.scsi.specs.declared.command.Plan.TheVariants.{Failed, Nothing, Reply, Read, Write}
@@ -7,7 +7,6 @@ use Rattle.bot.specs.declared.cbw.Header.{Header}
 use Rattle.machine.specs.declared.record.Stage.{Stage}
 use Rattle.machine.specs.declared.record.Stage.TheVariants.{Ready, DataOut, DataIn, ReplyIn, StatusDue}
 use Rattle.machine.specs.declared.wrapper.Wrapper.{Wrapper}
-use Rattle.machine.specs.declared.wrapper.Wrapper.TheVariants.{Broken, Good}
 use Rattle.machine.specs.declared.answer.Answer.{Answer}
 use Rattle.machine.specs.Units.{Table, unit_at, part_of}
 use Rattle.machine.specs.World.{World}
@@ -79,9 +78,9 @@ read_of h (Reply k n) = nothing
 read_of h (Read block count) = from h.lun
 read_of h (Write block count) = nothing
 
-unfoldable pub source_of : Wrapper → Source
-source_of Broken = nothing
-source_of (Good h p) = read_of h p
+unfoldable pub source_of : Option Wrapper → Source
+source_of None = nothing
+source_of (Some x) = read_of x.header x.plan
 
 -- An acked packet where no write is under way is a wrapper.
 unfoldable pub source_after : Tally → Table → List ℕ → Source → Source

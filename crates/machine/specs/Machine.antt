@@ -1,13 +1,11 @@
 -- The specification machine: the checks, one event, a list of events.
-use Rattle.std.specs.Prelude.{ℕ, Bool, true, false, List, [], ◌∷◌, leb, eqb, length}
+use Rattle.std.specs.Prelude.{ℕ, Bool, true, false, List, [], ◌∷◌, leb, eqb, length, Result, Ok, Err}
 use Rattle.wire.specs.Choice.{◌and◌}
 use Rattle.usb.specs.Request.{request_of}
 use Rattle.machine.specs.declared.answer.Answer.{Answer}
 use Rattle.machine.specs.declared.answer.Answer.TheVariants.{Ack, Silent, Refused}
 use Rattle.machine.specs.declared.answer.Refusal.TheVariants as refusal
 use Rattle.machine.specs.declared.checks.Checks.{Checks}
-use Rattle.machine.specs.declared.checks.Verdict.{Verdict}
-use Rattle.machine.specs.declared.checks.Verdict.TheVariants.{Passes, Refuses}
 use Rattle.machine.specs.Answer.{number_of, count_of}
 use Rattle.machine.specs.Units.{Table, in_table, switch_fits, medium_fits}
 use Rattle.machine.specs.Fits.{fits}
@@ -65,10 +63,14 @@ checks w (bulk_in b) =
 checks w (set_switch x n) =
     record { fits = fitting w and switch_fits x; medium = true; buffer = true; packet = true; setup = true; configured = true; unit = in_table n w.units }
 
+-- The event goes on, or ends with this answer.
+abbrev pub Verdict : Type 0
+Verdict = Result (Unit {0}) Answer
+
 -- The answer of the first test that fails, or none.
 unfoldable pub check : Bool → Answer → Verdict → Verdict
 check true a v = v
-check false a v = Refuses a
+check false a v = Err a
 
 unfoldable pub in_order : Checks → Verdict
 in_order c =
@@ -78,7 +80,7 @@ in_order c =
     (check c.packet (Refused refusal.Packet)
     (check c.setup (Refused refusal.Setup)
     (check c.configured Silent
-    (check c.unit (Refused refusal.Unit) Passes))))))
+    (check c.unit (Refused refusal.Unit) (Ok tt)))))))
 
 -- ---- one event
 
@@ -92,8 +94,8 @@ effect w (set_switch x n) = out Ack (switched w x n) []
 
 -- A refusal changes nothing.
 unfoldable pub judged : Verdict → World → List ℕ → Out → Out
-judged Passes w b o = o
-judged (Refuses a) w b o = out a w b
+judged (Ok u) w b o = o
+judged (Err a) w b o = out a w b
 
 unfoldable pub step : World → Event → Out
 step w e = judged (in_order (checks w e)) w (lent e) (effect w e)

@@ -1,5 +1,5 @@
 -- A packet shown where it already stands (document 02, A11), beside the copying call of Bulk.antt. The claim that they agree is in EitherCall.antt.
-use Rattle.std.specs.Prelude.{ℕ, ◌+◌, ◌*◌, true, List, [], leb, length, take}
+use Rattle.std.specs.Prelude.{ℕ, ◌+◌, ◌*◌, true, List, [], leb, length, take, Ok, Err}
 use Rattle.wire.specs.Choice.{◌and◌}
 use Rattle.wire.specs.Slices.{same, part}
 use Rattle.scsi.specs.Reply.{reply_data}
@@ -10,8 +10,6 @@ use Rattle.machine.specs.declared.record.State.{State}
 use Rattle.machine.specs.declared.answer.Answer.{Answer}
 use Rattle.machine.specs.declared.answer.Answer.TheVariants.{Data, Nak}
 use Rattle.machine.specs.declared.checks.Checks.{Checks}
-use Rattle.machine.specs.declared.checks.Verdict.{Verdict}
-use Rattle.machine.specs.declared.checks.Verdict.TheVariants.{Passes, Refuses}
 use Rattle.machine.specs.declared.ask.Source.{Source}
 use Rattle.machine.specs.declared.ask.Source.TheVariants as source
 use Rattle.machine.specs.declared.ask.Asked.{Asked}
@@ -22,7 +20,7 @@ use Rattle.machine.specs.Answer.{number_of, count_of}
 use Rattle.machine.specs.Units.{block_size, Table, unit_at, medium_fits}
 use Rattle.machine.specs.World.{World, in_state, Out, sends}
 use Rattle.machine.specs.Bulk.{packet_size, ask}
-use Rattle.machine.specs.Machine.{fitting, in_order, judged}
+use Rattle.machine.specs.Machine.{Verdict, fitting, in_order, judged}
 
 -- ---- "the reply": what the caller lends
 
@@ -86,8 +84,8 @@ show_asked (Quiet a) w = shown a w extent.Nowhere
 show_asked (Packet x s) w = show_from x s w
 
 unfoldable pub show_judged : Verdict → World → Shown
-show_judged Passes w = show_asked (ask w.dev.state) w
-show_judged (Refuses a) w = shown a w extent.Nowhere
+show_judged (Ok u) w = show_asked (ask w.dev.state) w
+show_judged (Err a) w = shown a w extent.Nowhere
 
 -- The showing call over a collector, lent a reply.
 unfoldable pub show : World → List ℕ → Shown

@@ -1,6 +1,6 @@
 -- What a history says (document 01, "Words of demand 3"; document 02, A4 and A7): the tally of arrived blocks, and address, configuration and switches as last set.
 -- An observer that is fed the making, the events and the answers, and nothing else.
-use Rattle.std.specs.Prelude.{ℕ, ◌+◌, ◌*◌, ◌-◌, Bool, true, false, not, List, [], ◌∷◌, ◌++◌, leb, ltb, eqb, length}
+use Rattle.std.specs.Prelude.{ℕ, ◌+◌, ◌*◌, ◌-◌, Bool, true, false, not, List, [], ◌∷◌, ◌++◌, leb, ltb, eqb, length, Option, Some, None}
 use Rattle.wire.specs.Choice.{when◌then◌else◌, ◌and◌}
 use Rattle.wire.specs.Slices.{placed}
 use Rattle.scsi.specs.declared.command.Plan.{Plan}
@@ -12,7 +12,6 @@ use Rattle.usb.specs.declared.request.Request.{Request}
 use Rattle.usb.specs.declared.request.Request.TheVariants.{SetAddress, SetConfiguration, GetConfiguration, GetDeviceStatus, GetInterfaceStatus, GetEndpointStatus, ClearHalt, SetHalt, MassStorageReset, GetMaxLun, GetDescriptor}
 use Rattle.usb.specs.declared.request.Request.TheVariants as request
 use Rattle.machine.specs.declared.wrapper.Wrapper.{Wrapper}
-use Rattle.machine.specs.declared.wrapper.Wrapper.TheVariants.{Broken, Good}
 use Rattle.machine.specs.declared.answer.Answer.{Answer}
 use Rattle.machine.specs.declared.answer.Answer.TheVariants.{Data, Ack, Nak, Stall, Silent, Refused}
 use Rattle.machine.specs.Units.{block_size, Table, unit_at, switched_to, as_made}
@@ -63,9 +62,9 @@ write_of h (Read block count) = idle
 write_of h (Write block count) =
     when ltb 0 count and not h.inward and leb (block_size * count) h.announced then writing h.lun block count [] else idle
 
-unfoldable pub beginning : Wrapper → Tally
-beginning Broken = idle
-beginning (Good h p) = write_of h p
+unfoldable pub beginning : Option Wrapper → Tally
+beginning None = idle
+beginning (Some x) = write_of x.header x.plan
 
 -- "with the last counted it ends"
 unfoldable pub following : ℕ → ℕ → ℕ → Tally

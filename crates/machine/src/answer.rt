@@ -1,4 +1,7 @@
 // How an event or a making ends.
+ghost use Rattle.std.specs.Prelude.{◌≡◌};
+ghost use Rattle.machine.specs.Answer.{refusal_number, number_of, count_of};
+
 #[derive(Clone, Copy)]
 pub enum Answer {
     // The first `count` bytes of the lent buffer were written, or so many bytes are shown where they stand.
@@ -28,4 +31,47 @@ pub enum Refusal {
     Number,
     // The unit of the switch event is beyond the table.
     Unit,
+}
+
+impl Refusal {
+    // Document 01's number, and number 18 of document 02, A7.
+    pub fn number(self) -> u32
+        ensures { result ≡ refusal_number self }
+    {
+        match self {
+            Refusal::Record => 10,
+            Refusal::Medium => 11,
+            Refusal::Buffer => 12,
+            Refusal::Packet => 13,
+            Refusal::Setup => 14,
+            Refusal::Number => 15,
+            Refusal::Unit => 18,
+        }
+    }
+}
+
+impl Answer {
+    // Document 01's number.
+    pub fn number(self) -> u32
+        ensures { result ≡ number_of self }
+    {
+        match self {
+            Answer::Data { .. } => 0,
+            Answer::Ack => 1,
+            Answer::Nak => 2,
+            Answer::Stall => 3,
+            Answer::Silent => 4,
+            Answer::Refused { why } => why.number(),
+        }
+    }
+
+    // How many bytes data has, 0 without data.
+    pub fn count(self) -> usize
+        ensures { result ≡ count_of self }
+    {
+        match self {
+            Answer::Data { count } => count,
+            _ => 0,
+        }
+    }
 }

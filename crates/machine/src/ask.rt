@@ -21,7 +21,8 @@ pub enum Source {
     },
 }
 
-// Nothing is sent, and nothing changes; or a packet is sent, and this state follows.
+// Nothing is sent, and nothing changes; or a packet is sent, and this state follows. No Result: that nothing is sent is no
+// error, but an answer to the host.
 #[derive(Clone, Copy)]
 pub enum Asked {
     Quiet { answer: Answer },

@@ -1,8 +1,7 @@
-// The checks before an event, and what they come to.
-use crate::answer::Answer;
+// The checks before an event.
 
 // What is checked. Each is true where the event lends no such input.
-#[derive(Clone, Copy)]
+#[derive(Clone, Copy, Debug, PartialEq, Eq)]
 pub struct Checks {
     pub fits: bool,
     pub medium: bool,
@@ -13,9 +12,15 @@ pub struct Checks {
     pub unit: bool,
 }
 
-// The event goes on, or ends with this answer.
-#[derive(Clone, Copy)]
-pub enum Verdict {
-    Passes,
-    Refuses(Answer),
+impl Checks {
+    // Of an event that lends nothing.
+    pub const NOTHING: Checks = Checks {
+        fits: true,
+        medium: true,
+        buffer: true,
+        packet: true,
+        setup: true,
+        configured: true,
+        unit: true,
+    };
 }

@@ -16,7 +16,7 @@ pub struct LogicalUnit {
     pub first: u32,
     pub blocks: u32,
     pub sense: Sense,
-    // The position: 0 open, 1 closed; no other fits.
+    // The position: 0 open, 1 closed; no other fits. A number, since C may hand over any byte.
     pub switch: u8,
 }
 

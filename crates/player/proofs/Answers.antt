@@ -1,41 +1,26 @@
 -- What is printed of an answer goes by its number and count: what the collector's contracts give. Assumes nothing.
-use Prim.Native.Nat.{ℕ, ◌≤◌, ◌<◌}
+use Prim.Native.Nat.{ℕ, ◌+◌, ◌≤◌}
 use mathlib.Core.Path.{◌≡◌, refl, sym, ap, subst, ◌∙◌}
-use mathlib.Core.Bool.{false}
-use mathlib.Core.List.{List, [], ◌++◌}
+use mathlib.Core.List.{List, ◌++◌}
 use native.Mathlib.Omega.{arith}
 use lib.Dec.{leb, eqb}
-use lib.ListN.{length, take, length-append}
-use lib.Seq.{take_all, length-take-le}
-use borrow.Author.Tests.{leb-true, leb-false}
-use Rattle.wire.specs.Choice.{when◌then◌else◌}
+use lib.ListN.{length, length-append}
+use borrow.Author.Tests.{le-leb}
+use Rattle.wire.specs.Choice.{when◌then◌else◌, ◌and◌}
 use Rattle.wire.specs.Texts.{ascii}
-use Rattle.wire.proofs.Cases.{both, by-if}
+use Rattle.wire.proofs.Cases.{and_true}
 use Rattle.machine.specs.declared.answer.Answer.{Answer}
 use Rattle.machine.specs.declared.answer.Answer.TheVariants.{Data, Ack, Nak, Stall, Silent, Refused}
 use Rattle.machine.specs.declared.answer.Refusal.TheVariants as refusal
-use Rattle.machine.specs.declared.record.Device.{Device}
 use Rattle.machine.specs.Answer.{number_of, count_of}
-use Rattle.machine.specs.Record.{with_state}
-use Rattle.machine.specs.Units.{Table, laid_out}
-use Rattle.machine.specs.World.{World, world, Out, out}
-use Rattle.machine.specs.Machine.{Event, set_switch, step, Told, told}
-use Rattle.machine.proofs.Judge.{judge, fit_passed}
-use Rattle.machine.proofs.Fit.{fit_of}
-use Rattle.units.specs.declared.table.Units.{Units}
-use Rattle.units.specs.declared.change.Change.{Change}
-use Rattle.units.specs.Held.{table_of}
-use Rattle.units.specs.Change.{applied}
-use Rattle.units.proofs.Held.{length-table}
-use Rattle.state.specs.declared.gate.Moved.{Moved}
+use Rattle.machine.specs.World.{World, Out, out}
+use Rattle.machine.specs.Machine.{step, Told, told}
 use Rattle.recording.specs.declared.cursor.Kind.{Kind}
 use Rattle.recording.specs.Format.{event_of}
-use Rattle.player.specs.declared.turns.EventResult.{EventResult}
-use Rattle.player.specs.declared.turns.Turn.{Turn}
 use Rattle.printout.specs.Writing.{Wrote}
-use Rattle.printout.specs.Print.{numeral, space, newline, data_text, refused_text, answer_text, line}
-use Rattle.player.specs.Turns.{changed, Ended, Ends, Turned}
-use Rattle.printout.proofs.Writes.{wrote_as, numeral-length, answer-length}
+use Rattle.printout.specs.Print.{numeral, space, newline, data_text, refused_text, answer_text, line, has_room, fitting}
+use Rattle.player.specs.Turns.{Turned}
+use Rattle.printout.proofs.Writes.{wrote_as, wrote_fits, room_there, numeral-length, answer-length}
 
 abbrev by_number : ℕ → ℕ → List ℕ → List ℕ
 by_number k n b =
@@ -81,76 +66,19 @@ line-length k a b h =
     let l = answer-length a b h in
     omega arith
 
--- the code's outcome and its line are the machine's
-pub turned : (a : Answer) (d : Device) (h : Units) (m b : List ℕ) (o : Out) (k : ℕ) (before : List ℕ) (at : ℕ) (after : List ℕ) (end : ℕ)
-    → told (out a (world d (table_of h) m) b) ≡ told o → length b ≤ 64 → Wrote before at (line k a b) after end
-    → Turned o k before at after m (record { device = d; units = h; at = end })
-turned a d h m b o k before at after end e l w = record {
-  world = ap (λ (t : Told). t.world) e;
-  text = wrote_as _ _ _ _ _ _ (same_line k (out a (world d (table_of h) m) b) o e) w;
-  room = let n = line-length k a b l in let p = w.place in omega arith;
-}
-
--- the same of a body whose length is written otherwise
-pub turned_as : (w : World) (x : Kind) (s : List ℕ) (i j k : ℕ) (before : List ℕ) (at : ℕ) (after m : List ℕ) (t : Turn)
-    → i ≡ j → Turned (step w (event_of x (take i s))) k before at after m t → Turned (step w (event_of x (take j s))) k before at after m t
-turned_as w x s i j k before at after m t e v = subst (λ (n : ℕ). Turned (step w (event_of x (take n s))) k before at after m t) e v
-
--- ---- the table that an event leaves
-
--- one of more than four units is refused, and nothing changes
-too_many : (w : World) (e : Event) → leb (length w.units) 4 ≡ false → (step w e).world ≡ w
-unfolding laid_out
-too_many w e f =
-    judge (λ (o : Out). o.world ≡ w) w e (λ a b. refl) (λ p.
-    let few : length w.units ≤ 4 = leb-true _ _ (both _ _ (both _ _ (fit_of w (fit_passed e p)).laid).1).0 in
-    let many : 4 < length w.units = leb-false _ _ f in
-    absurd (omega arith))
-
--- so an event's change is what it leaves of every table
-as_changed : (w : World) (e : Event) (c : Change) (h : Units) → w.units ≡ table_of h → applied c (table_of h) ≡ (step w e).world.units → changed c h ≡ applied c (table_of h)
-as_changed w e c h q s =
-    by-if (λ (t : Table). t ≡ applied c (table_of h)) (leb h.count 4) _ _ (λ _. refl)
-    (λ f. sym q ∙ sym (ap (λ (x : World). x.units) (too_many w e (ap (λ (n : ℕ). leb n 4) (ap length q ∙ length-table h) ∙ f))) ∙ sym s)
-
--- ---- an event ended, where its function says what the machine does
-
-ends : (d : Device) (h : Units) (v : Moved) (b : List ℕ) (n : ℕ) (r : EventResult) (w : World) (e : Event) (m s : List ℕ)
-    → Ended d h v b n r → length b ≡ 64 → n ≤ 64 → take n b ≡ s → w.units ≡ table_of h
-    → told (out v.answer (world (with_state d v.state) (applied v.change (table_of h)) m) s) ≡ told (step w e) → Ends r m (step w e)
-ends d h v b n r w e m s g l most lent q said =
-    let table = g.table ∙ as_changed w e v.change h q (ap (λ (t : Told). t.world.units) said) in
-    let size = ap length g.buffer in
-    let few = g.lent in
+-- the code's outcome and its line are the machine's, where there is room for a line
+pub turned : (a : Answer) (w : World) (b : List ℕ) (o : Out) (k : ℕ) (before : List ℕ) (at : ℕ) (after : List ℕ) (end : ℕ)
+    → told (out a w b) ≡ told o → length b ≤ 64 → at + 207 ≤ length before
+    → Wrote before at (fitting (has_room before at and leb (length b) 64) (line k a b)) after end → Turned o k before at after end w
+turned a w b o k before at after end e l room said =
+    let wrote = wrote_fits _ _ _ _ _ _ (and_true _ _ (room_there _ _ room) (le-leb _ _ l)) said in
     record {
-      told =
-          (λ i. told (out (g.answer i) (world (g.device i) (table i) m) (take (g.lent i) (g.buffer i))))
-          ∙ ap (λ (x : List ℕ). told (out v.answer (world (with_state d v.state) (applied v.change (table_of h)) m) x)) lent
-          ∙ said;
-      lent = omega arith;
-      size = omega arith;
+      world = ap (λ (t : Told). t.world) e;
+      text = wrote_as _ _ _ _ _ _ (same_line k (out a w b) o e) wrote;
+      room = let n = line-length k a b l in let p = wrote.place in omega arith;
     }
 
--- its buffer was lent whole
-pub ends-whole : (d : Device) (h : Units) (v : Moved) (b : List ℕ) (r : EventResult) (w : World) (e : Event) (m : List ℕ)
-    → Ended d h v b 64 r → length b ≡ 64 → w.units ≡ table_of h
-    → told (out v.answer (world (with_state d v.state) (applied v.change (table_of h)) m) b) ≡ told (step w e) → Ends r m (step w e)
-ends-whole d h v b r w e m g l q said = ends d h v b 64 r w e m b g l (omega arith) (take_all 64 b (omega arith)) q said
-
--- no buffer was lent
-pub ends-none : (d : Device) (h : Units) (v : Moved) (b : List ℕ) (r : EventResult) (w : World) (e : Event) (m : List ℕ)
-    → Ended d h v b 0 r → length b ≡ 64 → w.units ≡ table_of h
-    → told (out v.answer (world (with_state d v.state) (applied v.change (table_of h)) m) []) ≡ told (step w e) → Ends r m (step w e)
-ends-none d h v b r w e m g l q said = ends d h v b 0 r w e m [] g l (omega arith) refl q said
-
--- what is printed of it is at most 64 bytes
-pub few_lent : (r : EventResult) (m : List ℕ) (o : Out) → Ends r m o → length (take r.lent r.buffer) ≤ 64
-few_lent r m o w = let l = length-take-le r.lent r.buffer w.lent in let a = w.lent in let b = w.size in omega arith
-
 -- the event of a kind that is known
-pub ends_as : (r : EventResult) (m : List ℕ) (w : World) (k x : Kind) (s : List ℕ) → k ≡ x → Ends r m (step w (event_of x s)) → Ends r m (step w (event_of k s))
-ends_as r m w k x s e v = subst (λ (y : Kind). Ends r m (step w (event_of y s))) (sym e) v
-
--- a switch was set to a position, of a unit, that are read from a body
-pub ends_set : (r : EventResult) (m : List ℕ) (w : World) (x y n k : ℕ) → x ≡ y → n ≡ k → Ends r m (step w (set_switch x n)) → Ends r m (step w (set_switch y k))
-ends_set r m w x y n k e f v = subst (λ (z : ℕ). Ends r m (step w (set_switch z k))) e (subst (λ (z : ℕ). Ends r m (step w (set_switch x z))) f v)
+pub turned_as : (w : World) (k x : Kind) (s : List ℕ) (n : ℕ) (before : List ℕ) (at : ℕ) (after : List ℕ) (end : ℕ) (left : World)
+    → k ≡ x → Turned (step w (event_of x s)) n before at after end left → Turned (step w (event_of k s)) n before at after end left
+turned_as w k x s n before at after end left e v = subst (λ (y : Kind). Turned (step w (event_of y s)) n before at after end left) (sym e) v

@@ -3,40 +3,38 @@ use Prim.Native.Nat.{ℕ, ◌+◌, ◌*◌, ◌-◌, ◌≤◌, ◌<◌}
 use mathlib.Core.Path.{◌≡◌, refl, sym, ap, subst, ◌∙◌}
 use mathlib.Core.Bool.{true, false}
 use mathlib.Core.List.{List, [], ◌∷◌, ◌++◌, append_assoc, append-nil}
+use Rattle.std.proofs.Common.{Option, Some}
 use native.Mathlib.Omega.{arith}
 use native.Mathlib.Nat.{zero-add}
 use lib.Dec.{eqb}
 use lib.ListN.{length, take, drop, length-append, length-map}
-use Rattle.scsi.specs.Sense.{no_sense}
 use Rattle.wire.specs.Texts.{ascii}
 use Rattle.wire.specs.Choice.{when◌then◌else◌, ◌and◌}
-use Rattle.wire.proofs.Cases.{both, if-true, if-false, by-if}
+use Rattle.wire.proofs.Cases.{if-true, if-false, by-if}
 use Rattle.wire.proofs.Lists.{placed_yes}
 use Rattle.wire.proofs.Packets.{length-zeros}
 use Rattle.machine.specs.declared.answer.Answer.TheVariants.{Ack}
+use Rattle.machine.specs.declared.answer.Refusal.{Refusal}
 use Rattle.machine.specs.declared.answer.Refusal.TheVariants as refusal
-use Rattle.machine.specs.Answer.{number_of}
-use Rattle.machine.specs.Units.{size_fits, Table, unit, unused, as_made, total, follow, laid_out, medium_fits}
-use Rattle.machine.specs.declared.record.LogicalUnit.{LogicalUnit}
+use Rattle.machine.specs.declared.record.Device.{Device}
+use Rattle.machine.specs.Answer.{refusal_number, number_of}
+use Rattle.machine.specs.Units.{size_fits, Table, unused, as_made, total, follow, laid_out, medium_fits}
 use Rattle.machine.specs.Record.{fresh}
 use Rattle.machine.specs.Fits.{number_fits}
 use Rattle.machine.specs.Making.{Made, made, not_made, make, ToldMade, told_made}
 use Rattle.machine.specs.World.{World, world}
 use Rattle.machine.specs.Machine.{Event, Run, step, run}
 use Rattle.machine.specs.Claim.{born, lived}
-use Rattle.units.specs.declared.table.Units.{Units}
-use Rattle.units.specs.Held.{held_of, table_of as heldTable}
-use Rattle.units.proofs.Held.{length-table, held}
+use Rattle.recording.specs.declared.cursor.Kind.{Kind}
 use Rattle.recording.specs.declared.cursor.Reading.{Reading}
-use Rattle.player.specs.declared.turns.Turn.{Turn}
-use Rattle.recording.specs.Format.{is_kind, formed, event_of, events_in, count_of, table_of, bodies_of, is_formed, Parsed}
+use Rattle.recording.specs.Format.{is_kind, formed, event_of, event_in, events_in, count_of, table_of, bodies_of, is_formed, Parsed, parse}
 use Rattle.recording.specs.Cursor.{read_at}
 use Rattle.printout.specs.Writing.{Wrote}
 use Rattle.printout.specs.Print.{line, lines, numeral, newline, heading, refused_line, has_room, fitting}
-use Rattle.player.specs.Player.{bench_identity, bench_table, bench_medium, making_number, played, run_in, text_of, medium_of, printed_over, Leaves}
-use Rattle.player.specs.Turns.{world_of, Turned}
+use Rattle.player.specs.Player.{bench_identity, bench_table, bench_medium, making_number, played, run_in, text_of, medium_of, table_left, printed_over, Leaves}
+use Rattle.player.specs.Turns.{Turned}
 use Rattle.recording.proofs.Parses.{events-count, parse_bad, parse_good}
-use Rattle.recording.proofs.Cursors.{Place, First, first, formed-step}
+use Rattle.recording.proofs.Cursors.{Place, First, first}
 use Rattle.printout.proofs.Writes.{wrote_more, wrote_as, wrote_fits, room_there, numeral-length, refused-line-length}
 
 -- what is left to play, from a world on
@@ -52,16 +50,11 @@ pub record So-far (u : ℕ) (s : List ℕ) (whole : Run) (t₀ : List ℕ) (from
   pub done : List ℕ
   pub wrote : Wrote t₀ from done t at
   pub text : done ++ lines k (left-run u s w n e b).replies ≡ lines 1 whole.replies
-  pub medium : (left-run u s w n e b).world.medium ≡ whole.world.medium
-
-kinded : (u : ℕ) (s : List ℕ) (n e b : ℕ) (r : Reading) → r ≡ read_at u s e b → 0 < n → Place s n e b → formed u n (drop e s) (drop b s) ≡ true → is_kind r.kind ≡ true
-kinded u s n e b r q p at f =
-    ap (λ (x : Reading). is_kind x.kind) q
-    ∙ (both _ _ (sym (formed-step u n s e b p at.table at.bodies) ∙ f)).0
+  pub world : (left-run u s w n e b).world ≡ whole.world
 
 pub began : (u : ℕ) (s : List ℕ) (whole : Run) (t₀ : List ℕ) (from : ℕ) (w : World) (t : List ℕ) (at n e b k : ℕ) (r : Reading)
-    → So-far u s whole t₀ from w t at n e b k → r ≡ read_at u s e b → 0 < n → First u s n e b r
-began u s whole t₀ from w t at n e b k r f q p = first u s n e b r q p f.place (kinded u s n e b r q p f.place f.good)
+    → (x : Kind) → r.kind ≡ Some x → So-far u s whole t₀ from w t at n e b k → r ≡ read_at u s e b → 0 < n → First u s n e b r
+began u s whole t₀ from w t at n e b k r x y f q p = first u s n e b r q p f.place (ap is_kind y)
 
 -- one event more
 pub run-first : (w : World) (x : Event) (es : List Event) (k : ℕ)
@@ -69,53 +62,54 @@ pub run-first : (w : World) (x : Event) (es : List Event) (k : ℕ)
 unfolding run lines
 run-first w x es k = refl
 
-run-medium : (w : World) (x : Event) (es : List Event) → (run w (x ∷ es)).world.medium ≡ (run (step w x).world es).world.medium
+run-world : (w : World) (x : Event) (es : List Event) → (run w (x ∷ es)).world ≡ (run (step w x).world es).world
 unfolding run
-run-medium w x es = refl
+run-world w x es = refl
 
-pub go_on : (u : ℕ) (s : List ℕ) (whole : Run) (t₀ : List ℕ) (from : ℕ) (w : World) (t : List ℕ) (at n e b k : ℕ) (r : Reading) (m' t' : List ℕ) (x : Turn)
-    → So-far u s whole t₀ from w t at n e b k → r ≡ read_at u s e b → 0 < n
-    → Turned (step w (event_of r.kind (take r.len (drop b s)))) k t at t' m' x
-    → So-far u s whole t₀ from (world_of x m') t' x.at (n - 1) r.entry r.body (k + 1)
-go_on u s whole t₀ from w t at n e b k r m' t' x v q p g =
-    let f = began u s whole t₀ from w t at n e b k r v q p in
-    let ev = event_of r.kind (take r.len (drop b s)) in
+pub go_on : (u : ℕ) (s : List ℕ) (whole : Run) (t₀ : List ℕ) (from : ℕ) (w : World) (t : List ℕ) (at n e b k : ℕ) (r : Reading) (x : Kind) (w' : World) (t' : List ℕ) (at' : ℕ)
+    → r.kind ≡ Some x → So-far u s whole t₀ from w t at n e b k → r ≡ read_at u s e b → 0 < n
+    → Turned (step w (event_of x (take r.len (drop b s)))) k t at t' at' w'
+    → So-far u s whole t₀ from w' t' at' (n - 1) r.entry r.body (k + 1)
+go_on u s whole t₀ from w t at n e b k r x w' t' at' y v q p g =
+    let f = began u s whole t₀ from w t at n e b k r x y v q p in
+    let ev = event_of x (take r.len (drop b s)) in
     let es = events_in u (n - 1) (drop r.entry s) (drop r.body s) in
+    let all : events_in u n (drop e s) (drop b s) ≡ ev ∷ es = f.events ∙ ap (λ (o : Option Kind). event_in o (take r.len (drop b s)) ∷ es) y in
     let o = step w ev in
     let this = line k o.answer o.buffer in
     let rm = v.room in
     let gr = g.room in
     let pl = g.text.place in
     let cn = v.counts in
-    let back : left-run u s (world_of x m') (n - 1) r.entry r.body ≡ run o.world es = λ i. run (g.world i) es in
+    let back : left-run u s w' (n - 1) r.entry r.body ≡ run o.world es = λ i. run (g.world i) es in
     record {
       place = f.next;
       good = sym f.formed ∙ v.good;
       room = omega arith;
       counts = omega arith;
       done = v.done ++ this;
-      wrote = wrote_more t₀ from v.done t at this t' x.at v.wrote g.text (omega arith);
+      wrote = wrote_more t₀ from v.done t at this t' at' v.wrote g.text (omega arith);
       text =
-          append_assoc v.done this (lines (k + 1) (left-run u s (world_of x m') (n - 1) r.entry r.body).replies)
+          append_assoc v.done this (lines (k + 1) (left-run u s w' (n - 1) r.entry r.body).replies)
           ∙ ap (λ (l : Run). v.done ++ (this ++ lines (k + 1) l.replies)) back
           ∙ ap (λ (l : List ℕ). v.done ++ l) (sym (run-first w ev es k))
-          ∙ ap (λ (l : List Event). v.done ++ lines k (run w l).replies) (sym f.events)
+          ∙ ap (λ (l : List Event). v.done ++ lines k (run w l).replies) (sym all)
           ∙ v.text;
-      medium =
-          ap (λ (l : Run). l.world.medium) back
-          ∙ sym (run-medium w ev es)
-          ∙ ap (λ (l : List Event). (run w l).world.medium) (sym f.events)
-          ∙ v.medium;
+      world =
+          ap (λ (l : Run). l.world) back
+          ∙ sym (run-world w ev es)
+          ∙ ap (λ (l : List Event). (run w l).world) (sym all)
+          ∙ v.world;
     }
 
 -- none left
 pub ended : (u : ℕ) (s : List ℕ) (whole : Run) (t₀ : List ℕ) (from : ℕ) (w : World) (t : List ℕ) (at n e b k : ℕ)
-    → So-far u s whole t₀ from w t at n e b k → n ≡ 0 → Wrote t₀ from (lines 1 whole.replies) t at × (w.medium ≡ whole.world.medium)
+    → So-far u s whole t₀ from w t at n e b k → n ≡ 0 → Wrote t₀ from (lines 1 whole.replies) t at × (w ≡ whole.world)
 unfolding run lines events_in
 ended u s whole t₀ from w t at n e b k v z =
     let none : left-run u s w n e b ≡ record { replies = []; world = w } = ap (λ (j : ℕ). left-run u s w j e b) z in (
       wrote_as _ _ _ _ _ _ (sym (append-nil v.done) ∙ ap (λ (l : Run). v.done ++ lines k l.replies) (sym none) ∙ v.text) v.wrote,
-      ap (λ (l : Run). l.world.medium) (sym none) ∙ v.medium,
+      ap (λ (l : Run). l.world) (sym none) ∙ v.world,
     )
 
 -- ---- the whole text
@@ -134,15 +128,23 @@ heading-length n =
     let l = numeral-length n in
     omega arith
 
--- the text has room for what is printed first
-pub front_fits : (t s t' : List ℕ) (r : ℕ) → 207 ≤ length t → Wrote t 0 (fitting (has_room t 0) s) t' r → Wrote t 0 s t' r
-front_fits t s t' r h w = wrote_fits t 0 (has_room t 0) s t' r (room_there t 0 (omega arith)) w
+-- the text has room for what is printed first, when it is opened
+pub front_fits : (t t₁ : List ℕ) (at : ℕ) (s t' : List ℕ) (r : ℕ) → t₁ ≡ t → at ≡ 0 → 207 ≤ length t → Wrote t₁ at (fitting (has_room t₁ at) s) t' r → Wrote t 0 s t' r
+front_fits t t₁ at s t' r e z h w =
+    wrote_fits t 0 (has_room t 0) s t' r (room_there t 0 (omega arith))
+    (subst (λ (x : List ℕ). Wrote x 0 (fitting (has_room x 0) s) t' r) e (subst (λ (n : ℕ). Wrote t₁ n (fitting (has_room t₁ n) s) t' r) z w))
 
--- a making's number, by what its function tells; it leaves as many units as there are
-pub numbered : (k : ToldMade) (us : Table) (m : List ℕ) → k ≡ told_made (make bench_identity us m) → k.number ≡ making_number us m
-unfolding making_number
-numbered k us m e = ap (λ (x : ToldMade). x.number) e
+-- no refusal has the number of what is made
+refused_not : (why : Refusal) → eqb (refusal_number why) 1 ≡ false
+refused_not refusal.Record = refl
+refused_not refusal.Medium = refl
+refused_not refusal.Buffer = refl
+refused_not refusal.Packet = refl
+refused_not refusal.Setup = refl
+refused_not refusal.Number = refl
+refused_not refusal.Unit = refl
 
+-- a making leaves as many units as there are
 made-count : (us : Table) (m : List ℕ) → length (make bench_identity us m).units ≡ length us
 unfolding make as_made
 made-count us m =
@@ -153,12 +155,34 @@ made-count us m =
     same : Made → Type 0
     same r = length r.units ≡ length us
 
--- a table by value has as many units as it says
-pub as_table : (h : Units) (s : List ℕ) → is_formed (length (heldTable h)) s ≡ is_formed h.count s
-as_table h s = ap (λ (n : ℕ). is_formed n s) (length-table h)
+pub counted : (d : Device) (us' us : Table) (m : List ℕ) → told_made (made Ack d us') ≡ told_made (make bench_identity us m) → length us' ≡ length us
+counted d us' us m e = ap (λ (x : ToldMade). length x.units) e ∙ made-count us m
 
-pub counted : (k : ToldMade) (us : Table) (m : List ℕ) (h : Units) → k ≡ told_made (make bench_identity us m) → k.units ≡ heldTable h → h.count ≡ length us
-counted k us m h e q = sym (length-table h) ∙ ap length (sym q ∙ ap (λ (x : ToldMade). x.units) e) ∙ made-count us m
+-- one that is refused keeps the table
+kept : (us : Table) (m : List ℕ) → eqb (number_of (make bench_identity us m).answer) 1 ≡ false → (make bench_identity us m).units ≡ us
+unfolding make
+kept us m =
+    by-if same (laid_out us) _ _
+    (λ _. by-if same (medium_fits us m) _ _ (λ _. by-if same (number_fits 42) _ _ (λ _ e. absurd cc) (λ _ _. refl)) (λ _ _. refl))
+    (λ _ _. refl)
+  where
+    same : Made → Type 0
+    same r = eqb (number_of r.answer) 1 ≡ false → r.units ≡ us
+
+-- its number, either way
+refused_lem : (why : Refusal) (us' us : Table) (m : List ℕ) → told_made (not_made why us') ≡ told_made (make bench_identity us m) → eqb (making_number us m) 1 ≡ false
+unfolding making_number
+refused_lem why us' us m ke = ap (λ (k : ToldMade). eqb k.number 1) (sym ke) ∙ refused_not why
+
+served_lem : (d : Device) (us' us : Table) (m : List ℕ) → told_made (made Ack d us') ≡ told_made (make bench_identity us m) → eqb (making_number us m) 1 ≡ true
+unfolding making_number
+served_lem d us' us m ke = ap (λ (k : ToldMade). eqb k.number 1) (sym ke)
+
+-- the run over what was made is the run over what is lent
+ran_lem : (us : Table) (s m : List ℕ) (n : ℕ) (d : Device) (us' : Table) → told_made (made Ack d us') ≡ told_made (make bench_identity us m) → n ≡ count_of s
+    → run_in (length us') s n (world d us' m) ≡ played us m (events_in (length us) (count_of s) (table_of s) (bodies_of s))
+unfolding played lived born
+ran_lem us s m n d us' ke ne = λ i. run_in (counted d us' us m ke i) s (ne i) (world (ke i).dev (ke i).units m)
 
 -- nothing is run
 pub refuses : (us : Table) (start s t m t' : List ℕ) (r : ℕ) → is_formed (length us) s ≡ false → 207 ≤ length t → Wrote t 0 (refused_line 16) t' r → Leaves us start s t m t' r m
@@ -170,35 +194,59 @@ refuses us start s t m t' r f h w =
     let l = wrote_front t (refused_line 16) t' r w (omega arith) in
     record { text = l.0 ∙ ap (λ (x : List ℕ). x ++ drop (length x) t) p; place = l.1 ∙ ap length p; medium = ap (λ (x : Parsed). medium_of us start x m) (sym bad) }
 
-pub misfits : (us : Table) (start s t m t' : List ℕ) (r n : ℕ) → is_formed (length us) s ≡ true → n ≡ making_number us start → eqb n 1 ≡ false → 207 ≤ length t → Wrote t 0 (refused_line n) t' r → Leaves us start s t m t' r m
-unfolding printed_over text_of medium_of
-misfits us start s t m t' r n f e u h w =
+pub misfits : (us : Table) (start s t m t' : List ℕ) (r n : ℕ) (why : Refusal) (us' : Table) → is_formed (length us) s ≡ true → told_made (not_made why us') ≡ told_made (make bench_identity us start)
+    → n ≡ refusal_number why → 207 ≤ length t → Wrote t 0 (refused_line n) t' r → Leaves us start s t m t' r m
+unfolding printed_over text_of medium_of making_number
+misfits us start s t m t' r n why us' f ke ne h w =
     let good = parse_good (length us) s f in
-    let no : eqb (making_number us start) 1 ≡ false = ap (λ (k : ℕ). eqb k 1) (sym e) ∙ u in
-    let p : refused_line n ≡ printed_over us start s = ap refused_line e ∙ sym (ap (text_of us start) good ∙ if-false _ _ _ no) in
+    let e : refusal_number why ≡ making_number us start = ap (λ (k : ToldMade). k.number) ke in
+    let no = refused_lem why us' us start ke in
+    let p : refused_line n ≡ printed_over us start s = ap refused_line (ne ∙ e) ∙ sym (ap (text_of us start) good ∙ if-false _ _ _ no) in
     let k = refused-line-length n in
     let l = wrote_front t (refused_line n) t' r w (omega arith) in
     record { text = l.0 ∙ ap (λ (x : List ℕ). x ++ drop (length x) t) p; place = l.1 ∙ ap length p; medium = sym (ap (λ (x : Parsed). medium_of us start x m) good ∙ if-false _ _ _ no) }
 
-pub plays : (us : Table) (u : ℕ) (s t m : List ℕ) (n : ℕ) (k : ToldMade) (t₁ : List ℕ) (at : ℕ) (t₂ : List ℕ) (r : ℕ) (m₂ : List ℕ)
-    → is_formed (length us) s ≡ true → eqb (making_number us m) 1 ≡ true → k ≡ told_made (make bench_identity us m) → u ≡ length us → n ≡ count_of s
+pub plays : (us : Table) (s t m : List ℕ) (n : ℕ) (d : Device) (us' : Table) (t₁ : List ℕ) (at : ℕ) (t₂ : List ℕ) (r : ℕ) (w₂ : World)
+    → is_formed (length us) s ≡ true → told_made (made Ack d us') ≡ told_made (make bench_identity us m) → n ≡ count_of s
     → Wrote t 0 (heading n) t₁ at
-    → Wrote t₁ at (lines 1 (run_in u s n (world k.dev k.units m)).replies) t₂ r
-    → m₂ ≡ (run_in u s n (world k.dev k.units m)).world.medium
-    → r ≤ length t → Leaves us m s t m t₂ r m₂
-unfolding printed_over text_of medium_of played lived born
-plays us u s t m n k t₁ at t₂ r m₂ f ok ke ue ne w v q h =
+    → Wrote t₁ at (lines 1 (run_in (length us') s n (world d us' m)).replies) t₂ r
+    → w₂ ≡ (run_in (length us') s n (world d us' m)).world
+    → r ≤ length t → Leaves us m s t m t₂ r w₂.medium
+unfolding printed_over text_of medium_of
+plays us s t m n d us' t₁ at t₂ r w₂ f ke ne w v q h =
     let es = events_in (length us) (count_of s) (table_of s) (bodies_of s) in
     let good = parse_good (length us) s f in
-    let ran : run_in u s n (world k.dev k.units m) ≡ played us m es = λ i. run_in (ue i) s (ne i) (world (ke i).dev (ke i).units m) in
+    let ok = served_lem d us' us m ke in
+    let ran = ran_lem us s m n d us' ke ne in
     let count : n ≡ length es = ne ∙ sym (events-count (length us) (count_of s) (table_of s) (bodies_of s)) in
-    let p : heading n ++ lines 1 (run_in u s n (world k.dev k.units m)).replies ≡ printed_over us m s =
+    let p : heading n ++ lines 1 (run_in (length us') s n (world d us' m)).replies ≡ printed_over us m s =
     (λ i. heading (count i) ++ lines 1 (ran i).replies) ∙ sym (ap (text_of us m) good ∙ if-true _ _ _ ok) in
     let a = v.place in
     let all = wrote_as _ _ _ _ _ _ p (wrote_more _ _ _ _ _ _ _ _ w v (omega arith)) in
     let b = all.place in
     let l = wrote_front t (printed_over us m s) t₂ r all (omega arith) in
-    record { text = l.0; place = l.1; medium = q ∙ ap (λ (x : Run). x.world.medium) ran ∙ sym (ap (λ (x : Parsed). medium_of us m x m) good ∙ if-true _ _ _ ok) }
+    record { text = l.0; place = l.1; medium = ap (λ (x : World). x.medium) q ∙ ap (λ (x : Run). x.world.medium) ran ∙ sym (ap (λ (x : Parsed). medium_of us m x m) good ∙ if-true _ _ _ ok) }
+
+-- the table that is left: of a malformed recording, where making refuses, and of a run
+pub table_refuses : (us : Table) (start s : List ℕ) → is_formed (length us) s ≡ false → us ≡ table_left us start (parse (length us) s)
+unfolding table_left
+table_refuses us start s f = sym (ap (table_left us start) (parse_bad (length us) s f))
+
+pub table_misfits : (us : Table) (start s : List ℕ) (why : Refusal) (us' : Table) → is_formed (length us) s ≡ true → told_made (not_made why us') ≡ told_made (make bench_identity us start)
+    → us' ≡ table_left us start (parse (length us) s)
+unfolding table_left making_number
+table_misfits us start s why us' f ke =
+    let no = refused_lem why us' us start ke in
+    ap (λ (k : ToldMade). k.units) ke ∙ kept us start no ∙ sym (ap (table_left us start) (parse_good (length us) s f) ∙ if-false _ _ _ no)
+
+pub table_plays : (us : Table) (s m : List ℕ) (n : ℕ) (d : Device) (us' : Table) (w₂ : World)
+    → is_formed (length us) s ≡ true → told_made (made Ack d us') ≡ told_made (make bench_identity us m) → n ≡ count_of s
+    → w₂ ≡ (run_in (length us') s n (world d us' m)).world → w₂.units ≡ table_left us m (parse (length us) s)
+unfolding table_left
+table_plays us s m n d us' w₂ f ke ne q =
+    ap (λ (x : World). x.units) q
+    ∙ ap (λ (x : Run). x.world.units) (ran_lem us s m n d us' ke ne)
+    ∙ sym (ap (table_left us m) (parse_good (length us) s f) ∙ if-true _ _ _ (served_lem d us' us m ke))
 
 -- what is run does not ask what stood on the medium before it was cleared
 pub cleared : (us us₁ : Table) (start s t m₁ m t₂ : List ℕ) (r : ℕ) (m₂ : List ℕ) → is_formed (length us) s ≡ true → eqb (making_number us start) 1 ≡ true → us₁ ≡ us → m₁ ≡ start → Leaves us₁ m₁ s t m₁ t₂ r m₂
@@ -209,10 +257,7 @@ cleared us us₁ start s t m₁ m t₂ r m₂ f ok d e l =
     let q = subst (λ (x : List ℕ). Leaves us x s t m₁ t₂ r m₂) e (subst (λ (x : Table). Leaves x m₁ s t m₁ t₂ r m₂) d l) in
     record { text = q.text; place = q.place; medium = q.medium ∙ (ap (λ (x : Parsed). medium_of us start x m₁) good ∙ if-true _ _ _ ok) ∙ sym (ap (λ (x : Parsed). medium_of us start x m) good ∙ if-true _ _ _ ok) }
 
--- the bench's table, by value, and that it is served with the bench's medium
-pub bench_table_lem : (h : Units) (x : LogicalUnit) → h ≡ held_of (x ∷ []) → x ≡ unit 0 64 no_sense 0 → heldTable h ≡ bench_table
-bench_table_lem h x e f = ap heldTable e ∙ held (x ∷ []) (omega arith) ∙ ap (λ (y : LogicalUnit). y ∷ []) f
-
+-- the bench's table is served with the bench's medium
 pub bench_served : eqb (making_number bench_table bench_medium) 1 ≡ true
 unfolding bench_medium making_number make laid_out follow size_fits medium_fits total number_fits when◌then◌else◌ ◌and◌
 bench_served = ap (λ (n : ℕ). eqb (number_of (when eqb n 32768 then made Ack (fresh bench_identity) (as_made bench_table) else not_made refusal.Medium bench_table).answer) 1) (length-zeros 32768)

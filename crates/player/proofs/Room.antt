@@ -3,6 +3,7 @@ use Prim.Native.Nat.{ℕ, zero, suc, ◌+◌, ◌*◌, ◌≤◌}
 use mathlib.Core.Path.{◌≡◌, refl, sym, subst}
 use mathlib.Core.Bool.{Bool, true, false}
 use mathlib.Core.List.{List}
+use Rattle.std.proofs.Common.{Option, Some, None}
 use native.Mathlib.Omega.{arith}
 use lib.Dec.{eqb}
 use lib.ListN.{length, take, drop, length-append, length-drop}
@@ -15,8 +16,8 @@ use Rattle.machine.specs.Claim.{born, lived}
 use Rattle.machine.specs.Beside.{Lawful, unchanged, stalled, locked, handed, acked}
 use Rattle.machine.proofs.StepLaws.{step_laws}
 use Rattle.recording.specs.declared.cursor.Kind.{Kind}
-use Rattle.recording.specs.declared.cursor.Kind.TheVariants.{Reset, Control, Out as outward, Ask, Switch, Malformed}
-use Rattle.recording.specs.Format.{kind_in, length_in, event_of, events_in, count_of, table_of, bodies_of, is_formed, Parsed}
+use Rattle.recording.specs.declared.cursor.Kind.TheVariants.{Reset, Control, Out as outward, Ask, Switch}
+use Rattle.recording.specs.Format.{kind_in, length_in, event_of, event_in, events_in, count_of, table_of, bodies_of, is_formed, Parsed}
 use Rattle.recording.proofs.Parses.{parse_bad, parse_good, sound}
 use Rattle.printout.specs.Print.{line, lines, heading}
 use Rattle.player.specs.Player.{bench_identity, making_number, played, text_of, printed_over, most_text}
@@ -40,16 +41,20 @@ lends Control s = let n = length-zeros 64 in omega arith
 lends outward s = omega arith
 lends Ask s = let n = length-zeros 64 in omega arith
 lends Switch s = omega arith
-lends Malformed s = omega arith
 
-short : (w : World) (k : Kind) (s : List ℕ) → length (step w (event_of k s)).buffer ≤ 64
-short w k s = keeps w (lent (event_of k s)) (step w (event_of k s)) (step_laws w (event_of k s)) (lends k s)
+lends-any : (k : Option Kind) (s : List ℕ) → length (lent (event_in k s)) ≤ 64
+unfolding lent
+lends-any (Some k) s = lends k s
+lends-any None s = omega arith
+
+short : (w : World) (k : Option Kind) (s : List ℕ) → length (step w (event_in k s)).buffer ≤ 64
+short w k s = keeps w (lent (event_in k s)) (step w (event_in k s)) (step_laws w (event_in k s)) (lends-any k s)
 
 lines_most : (u n : ℕ) (t b : List ℕ) (w : World) (k : ℕ) → length (lines k (run w (events_in u n t b)).replies) ≤ 207 * n
 unfolding events_in run lines
 lines_most u zero t b w k = omega arith
 lines_most u (suc n) t b w k =
-    let e = event_of (kind_in u t b) (take (length_in t) b) in
+    let e = event_in (kind_in u t b) (take (length_in t) b) in
     let o = step w e in
     let h = line-length k o.answer o.buffer (short w (kind_in u t b) (take (length_in t) b)) in
     let r = lines_most u n (drop 4 t) (drop (length_in t) b) o.world (k + 1) in

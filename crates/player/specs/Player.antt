@@ -41,6 +41,11 @@ unfoldable pub medium_of : Table → List ℕ → Parsed → List ℕ → List �
 medium_of us start malformed m = m
 medium_of us start (well_formed es) m = when eqb (making_number us start) 1 then (played us start es).world.medium else m
 
+-- The table that is left: as the run leaves it, and as it was where nothing is run.
+unfoldable pub table_left : Table → List ℕ → Parsed → Table
+table_left us start malformed = us
+table_left us start (well_formed es) = when eqb (making_number us start) 1 then (played us start es).world.units else us
+
 unfoldable pub printed_over : Table → List ℕ → List ℕ → List ℕ
 printed_over us start s = text_of us start (parse (length us) s)
 

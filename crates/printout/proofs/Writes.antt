@@ -1,12 +1,12 @@
 -- Laws of writing into a lent buffer, and of the pieces that are printed. Assumes nothing.
-use Prim.Native.Nat.{ℕ, zero, suc, ◌+◌, ◌*◌, ◌-◌, ◌/◌, ◌%◌, ◌≤◌, ◌<◌}
+use Prim.Native.Nat.{ℕ, zero, suc, ◌+◌, ◌*◌, ◌-◌, ◌/◌, ◌%◌, ◌≤◌, ◌<◌, min}
 use mathlib.Core.Path.{◌≡◌, refl, sym, ap, ap₂, subst, ◌∙◌}
 use mathlib.Core.Bool.{Bool, true, false}
 use mathlib.Core.List.{List, [], ◌∷◌, ◌++◌}
 use native.Mathlib.Omega.{arith}
 use native.Mathlib.Nat.{add-zero}
 use native.Mathlib.Numerals.{add-one}
-use lib.Dec.{ltb}
+use lib.Dec.{ltb, leb}
 use lib.ListN.{get_or, length, take, drop, length-append, length-drop}
 use lib.Seq.{take_all, take-suc}
 use Rattle.wire.specs.Slices.{placed, fits}
@@ -14,7 +14,7 @@ use Rattle.wire.specs.Numbers.{decimal}
 use Rattle.wire.proofs.Lists.{length-placed, placed_more, placed-none}
 use Rattle.wire.proofs.Positional.{digits, last_digits}
 use Rattle.wire.proofs.Cases.{if-true, if-false, by-if}
-use borrow.Author.Tests.{le-leb, leb-true}
+use borrow.Author.Tests.{le-leb, leb-true, leb-false}
 use Rattle.wire.specs.Texts.{ascii}
 use Rattle.machine.specs.declared.answer.Answer.{Answer}
 use Rattle.machine.specs.declared.answer.Answer.TheVariants.{Data, Ack, Nak, Stall, Silent, Refused}
@@ -90,6 +90,14 @@ take_most : (n : ℕ) (s : List ℕ) → length (take n s) ≤ length s
 take_most zero s = omega arith
 take_most (suc n) [] = omega arith
 take_most (suc n) (x ∷ s) = let h = take_most n s in omega arith
+
+-- the first n elements, where there may be fewer
+pub take_least : (n r : ℕ) (s : List ℕ) → r ≡ min n (length s) → take r s ≡ take n s
+take_least n r s e = either (leb n (length s)) refl
+  where
+    either : (t : Bool) → leb n (length s) ≡ t → take r s ≡ take n s
+    either true f = let h = leb-true n (length s) f in let q : r ≡ n = omega arith in ap (λ (k : ℕ). take k s) q
+    either false f = let h = leb-false n (length s) f in take_all r s (omega arith) ∙ sym (take_all n s (omega arith))
 
 pub answer-length : (a : Answer) (b : List ℕ) → length b ≤ 64 → length (answer_text a b) ≤ 201
 unfolding answer_text data_text refused_text

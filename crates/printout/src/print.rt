@@ -1,168 +1,160 @@
-// The printed text, written piece by piece into a lent buffer: each function writes its piece from a place on and gives
-// the place behind it. The public ones look first: without room for a line nothing is written, and the place stays.
-ghost use Rattle.std.specs.Prelude.{◌≡◌, ◌+◌, ◌*◌, ◌≤◌, ◌<◌, leb, length, take};
+// The printed text, written piece by piece into a lent buffer. The public methods look first: without room for a line
+// nothing is written, and the place stays.
+ghost use Rattle.std.specs.Prelude.{◌≡◌, ◌+◌, ◌*◌, ◌≤◌, ◌<◌, leb, length};
 ghost use Rattle.wire.specs.Choice.{◌and◌};
-ghost use Rattle.machine.specs.Answer.{refusal_number};
 ghost use Rattle.printout.specs.Writing.{Wrote};
-ghost use Rattle.printout.specs.Print.{has_room, fitting, width_of, hex_digit, answer_text, data_text};
-ghost use Rattle.printout.specs.Print as printing;
+ghost use Rattle.printout.specs.Print.{has_room, fitting, width_of, hex_digit, hexes, numeral, data_text, refused_text, answer_text, line, heading, refused_line};
 
-use machine::answer::{Answer, Refusal};
+use machine::answer::Answer;
 use wire::digits::digits;
 use wire::slices::put;
 
-fn append(text: &mut [u8], at: usize, s: &[u8]) -> usize
-    requires { at + length s.now ≤ length text.old }
-    ensures { Wrote text.old at s.now text.new result }
-{
-    put(text, at, s);
-    at + s.len()
+// The longest line.
+const MOST_LINE: usize = 207;
+
+// A lent buffer, and the place behind what was written into it.
+#[derive(Drop)]
+pub struct Text<'a> {
+    pub buffer: &'a mut [u8],
+    pub at: usize,
 }
 
+#[tactic(auto, using(std::proofs::lemmas::Bool::Decides::nat_tests, crate::proofs::Measures::width_by))]
 fn width_of(n: usize) -> usize
     ensures { (result ≡ width_of n) × (result ≤ 4) }
 {
-    if n < 10 {
-        return 1;
+    match n {
+        0..=9 => 1,
+        10..=99 => 2,
+        100..=999 => 3,
+        _ => 4,
     }
-    if n < 100 {
-        return 2;
-    }
-    if n < 1000 {
-        return 3;
-    }
-    4
-}
-
-fn numeral(text: &mut [u8], at: usize, n: usize) -> usize
-    requires { at + 4 ≤ length text.old }
-    ensures { Wrote text.old at (printing.numeral n) text.new result }
-{
-    let all = digits(n as u64);
-    let from = 12 - width_of(n);
-    append(text, at, &all[from..])
 }
 
 fn hex_digit(d: u8) -> u8
     requires { d < 16 }
     ensures { result ≡ hex_digit d }
 {
-    if d < 10 { 48 + d } else { 55 + d }
+    if d < 10 { b'0' + d } else { b'A' - 10 + d }
 }
 
-fn hexes(text: &mut [u8], at: usize, s: &[u8]) -> usize
-    requires { at + 3 * length s.now ≤ length text.old }
-    ensures { Wrote text.old at (printing.hexes s.now) text.new result }
-{
-    let mut end = at;
-    let mut i = 0;
-    while i < s.len() {
-        let x = s[i];
-        let shown = [b' ', hex_digit(x / 16), hex_digit(x % 16)];
-        end = append(text, end, &shown);
-        i += 1;
+impl<'a> Text<'a> {
+    // Nothing is written yet.
+    pub fn new(buffer: &'a mut [u8]) -> Text<'a>
+        ensures same { result.buffer.ghost_name ≡ buffer.entry.ghost_name }
+        ensures held { result.buffer.now ≡ buffer.old }
+        ensures at { result.at ≡ 0 }
+    {
+        Text { buffer, at: 0 }
     }
-    end
-}
 
-// Whether there is room for a line behind a place.
-fn has_room(text: &[u8], at: usize) -> bool
-    ensures { result ≡ has_room text.now at }
-{
-    if text.len() < 207 {
-        return false;
+    fn append(&mut self, s: &[u8])
+        requires { self.old.at + length s.now ≤ length self.old.buffer.now }
+        ensures same { self.new.buffer.ghost_name ≡ self.old.buffer.ghost_name }
+        ensures wrote { Wrote self.old.buffer.now self.old.at s.now self.new.buffer.now self.new.at }
+    {
+        put(self.buffer, self.at, s);
+        self.at += s.len();
     }
-    at <= text.len() - 207
-}
 
-// How many of the first n elements a slice has.
-fn within(n: usize, s: &[u8]) -> usize
-    ensures { (result ≤ length s.now) × (take result s.now ≡ take n s.now) }
-{
-    if n <= s.len() { n } else { s.len() }
-}
-
-fn data(text: &mut [u8], at: usize, n: usize, buffer: &[u8]) -> usize
-    requires { (at + 201 ≤ length text.old) × (length buffer.now ≤ 64) }
-    ensures { Wrote text.old at (data_text n buffer.now) text.new result }
-{
-    let numbered = append(text, at, b"data ");
-    let listed = numeral(text, numbered, n);
-    let shown = within(n, buffer);
-    hexes(text, listed, &buffer[..shown])
-}
-
-pub fn refusal_number(why: Refusal) -> usize
-    ensures { result ≡ refusal_number why }
-{
-    match why {
-        Refusal::Record => 10,
-        Refusal::Medium => 11,
-        Refusal::Buffer => 12,
-        Refusal::Packet => 13,
-        Refusal::Setup => 14,
-        Refusal::Number => 15,
-        Refusal::Unit => 18,
+    fn numeral(&mut self, n: usize)
+        requires { self.old.at + 4 ≤ length self.old.buffer.now }
+        ensures same { self.new.buffer.ghost_name ≡ self.old.buffer.ghost_name }
+        ensures wrote { Wrote self.old.buffer.now self.old.at (numeral n) self.new.buffer.now self.new.at }
+    {
+        let all = digits(n as u64);
+        self.append(&all[12 - width_of(n)..])
     }
-}
 
-fn refused(text: &mut [u8], at: usize, number: usize) -> usize
-    requires { at + 201 ≤ length text.old }
-    ensures { Wrote text.old at (printing.refused_text number) text.new result }
-{
-    let numbered = append(text, at, b"refused ");
-    numeral(text, numbered, number)
-}
+    fn hexes(&mut self, s: &[u8])
+        requires { self.old.at + 3 * length s.now ≤ length self.old.buffer.now }
+        ensures same { self.new.buffer.ghost_name ≡ self.old.buffer.ghost_name }
+        ensures wrote { Wrote self.old.buffer.now self.old.at (hexes s.now) self.new.buffer.now self.new.at }
+    {
+        for &x in s {
+            self.append(&[b' ', hex_digit(x / 16), hex_digit(x % 16)]);
+        }
+    }
 
-fn answer(text: &mut [u8], at: usize, said: Answer, buffer: &[u8]) -> usize
-    requires { (at + 201 ≤ length text.old) × (length buffer.now ≤ 64) }
-    ensures { Wrote text.old at (answer_text said buffer.now) text.new result }
-{
-    match said {
-        Answer::Data { count } => data(text, at, count, buffer),
-        Answer::Ack => append(text, at, b"ack"),
-        Answer::Nak => append(text, at, b"nak"),
-        Answer::Stall => append(text, at, b"stall"),
-        Answer::Silent => append(text, at, b"silent"),
-        Answer::Refused { why } => refused(text, at, refusal_number(why)),
+    // Whether there is room for a line behind the place.
+    #[tactic(auto, using(std::proofs::lemmas::Bool::Decides::nat_tests, crate::proofs::Measures::room_by))]
+    fn has_room(&self) -> bool
+        ensures { result ≡ has_room self.now.buffer.now self.now.at }
+    {
+        MOST_LINE <= self.buffer.len() && self.at <= self.buffer.len() - MOST_LINE
     }
-}
 
-// The line of the event of a number, from a place on.
-pub fn line(text: &mut [u8], at: usize, number: usize, said: Answer, buffer: &[u8]) -> usize
-    ensures { Wrote text.old at (fitting (has_room text.old at and leb (length buffer.now) 64) (printing.line number said buffer.now)) text.new result }
-{
-    if !has_room(text, at) {
-        return at;
+    fn data(&mut self, n: usize, lent: &[u8])
+        requires { (self.old.at + 201 ≤ length self.old.buffer.now) × (length lent.now ≤ 64) }
+        ensures same { self.new.buffer.ghost_name ≡ self.old.buffer.ghost_name }
+        ensures wrote { Wrote self.old.buffer.now self.old.at (data_text n lent.now) self.new.buffer.now self.new.at }
+    {
+        self.append(b"data ");
+        self.numeral(n);
+        self.hexes(&lent[..n.min(lent.len())]);
     }
-    if 64 < buffer.len() {
-        return at;
-    }
-    let numbered = numeral(text, at, number);
-    let spaced = append(text, numbered, b" ");
-    let answered = answer(text, spaced, said, buffer);
-    append(text, answered, b"\n")
-}
 
-// The first line of a recording that is played.
-pub fn heading(text: &mut [u8], count: usize) -> usize
-    ensures { Wrote text.old 0 (fitting (has_room text.old 0) (printing.heading count)) text.new result }
-{
-    if !has_room(text, 0) {
-        return 0;
+    fn refused(&mut self, number: u32)
+        requires { self.old.at + 201 ≤ length self.old.buffer.now }
+        ensures same { self.new.buffer.ghost_name ≡ self.old.buffer.ghost_name }
+        ensures wrote { Wrote self.old.buffer.now self.old.at (refused_text number) self.new.buffer.now self.new.at }
+    {
+        self.append(b"refused ");
+        self.numeral(number as usize);
     }
-    let numbered = append(text, 0, b"events ");
-    let ended = numeral(text, numbered, count);
-    append(text, ended, b"\n")
-}
 
-// All that is printed where nothing is run.
-pub fn refusal(text: &mut [u8], number: usize) -> usize
-    ensures { Wrote text.old 0 (fitting (has_room text.old 0) (printing.refused_line number)) text.new result }
-{
-    if !has_room(text, 0) {
-        return 0;
+    #[tactic(auto, unfolding(crate::specs::Print::answer_text))]
+    fn answer(&mut self, said: Answer, lent: &[u8])
+        requires { (self.old.at + 201 ≤ length self.old.buffer.now) × (length lent.now ≤ 64) }
+        ensures same { self.new.buffer.ghost_name ≡ self.old.buffer.ghost_name }
+        ensures wrote { Wrote self.old.buffer.now self.old.at (answer_text said lent.now) self.new.buffer.now self.new.at }
+    {
+        match said {
+            Answer::Data { count } => self.data(count, lent),
+            Answer::Ack => self.append(b"ack"),
+            Answer::Nak => self.append(b"nak"),
+            Answer::Stall => self.append(b"stall"),
+            Answer::Silent => self.append(b"silent"),
+            Answer::Refused { why } => self.refused(why.number()),
+        }
     }
-    let numbered = refused(text, 0, number);
-    append(text, numbered, b"\n")
+
+    // The line of the event of a number.
+    pub fn line(&mut self, number: usize, said: Answer, lent: &[u8])
+        ensures same { self.new.buffer.ghost_name ≡ self.old.buffer.ghost_name }
+        ensures wrote { Wrote self.old.buffer.now self.old.at (fitting (has_room self.old.buffer.now self.old.at and leb (length lent.now) 64) (line number said lent.now)) self.new.buffer.now self.new.at }
+    {
+        if !self.has_room() || 64 < lent.len() {
+            return;
+        }
+        self.numeral(number);
+        self.append(b" ");
+        self.answer(said, lent);
+        self.append(b"\n");
+    }
+
+    // The first line of a recording that is played.
+    pub fn heading(&mut self, count: usize)
+        ensures same { self.new.buffer.ghost_name ≡ self.old.buffer.ghost_name }
+        ensures wrote { Wrote self.old.buffer.now self.old.at (fitting (has_room self.old.buffer.now self.old.at) (heading count)) self.new.buffer.now self.new.at }
+    {
+        if !self.has_room() {
+            return;
+        }
+        self.append(b"events ");
+        self.numeral(count);
+        self.append(b"\n");
+    }
+
+    // All that is printed where nothing is run.
+    pub fn refusal(&mut self, number: u32)
+        ensures same { self.new.buffer.ghost_name ≡ self.old.buffer.ghost_name }
+        ensures wrote { Wrote self.old.buffer.now self.old.at (fitting (has_room self.old.buffer.now self.old.at) (refused_line number)) self.new.buffer.now self.new.at }
+    {
+        if !self.has_room() {
+            return;
+        }
+        self.refused(number);
+        self.append(b"\n");
+    }
 }

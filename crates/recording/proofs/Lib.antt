@@ -1,3 +1,4 @@
+pub mod Entries
 pub mod Cursors
 pub mod Parses
 pub mod Recordings

@@ -3,6 +3,7 @@ use Prim.Native.Nat.{ℕ, suc, ◌+◌, ◌*◌, ◌≤◌, ◌<◌}
 use mathlib.Core.Path.{◌≡◌, refl, sym, ap, ◌∙◌}
 use mathlib.Core.Bool.{true}
 use mathlib.Core.List.{List, [], ◌∷◌, ◌++◌}
+use Rattle.std.proofs.Common.{Some}
 use native.Mathlib.Omega.{arith}
 use lib.Dec.{leb}
 use lib.ListN.{length, take, drop, length-append}
@@ -15,7 +16,7 @@ use Rattle.wire.proofs.Cases.{if-true, and_true}
 use Rattle.machine.specs.Machine.{Event, bus_reset, control, bulk_out, bulk_in, set_switch}
 use Rattle.recording.specs.declared.cursor.Kind.{Kind}
 use Rattle.recording.specs.declared.cursor.Kind.TheVariants.{Reset, Control, Out, Ask, Switch}
-use Rattle.recording.specs.Format.{kind_of, is_kind, kind_in, length_in, formed, event_of, events_in, count_of, table_of, bodies_of, is_formed, well_formed, parse, number_of_kind, body_of, table, bodies, written, Recordable, AllRecordable, most_bytes, most_events}
+use Rattle.recording.specs.Format.{kind_of, is_kind, kind_in, length_in, formed, event_of, event_in, events_in, count_of, table_of, bodies_of, is_formed, well_formed, parse, number_of_kind, body_of, table, bodies, written, Recordable, AllRecordable, most_bytes, most_events}
 use Rattle.recording.specs.Claims.{WrittenIsParsed}
 
 -- ---- a number of two bytes
@@ -34,7 +35,7 @@ kind_for (bulk_in b) = Ask
 kind_for (set_switch x n) = Switch
 
 -- its body stands in front of the others
-kind_is : (u : ℕ) (e : Event) (y : List ℕ) → Recordable u e → kind_of (number_of_kind e) 0 (length (body_of e)) (byte_at (body_of e ++ y) 0) (byte_at (body_of e ++ y) 1) u ≡ kind_for e
+kind_is : (u : ℕ) (e : Event) (y : List ℕ) → Recordable u e → kind_of (number_of_kind e) 0 (length (body_of e)) (byte_at (body_of e ++ y) 0) (byte_at (body_of e ++ y) 1) u ≡ Some (kind_for e)
 unfolding kind_of when◌then◌else◌ ◌and◌
 kind_is u bus_reset y h = refl
 kind_is u (control s b) y h = ap (λ (n : ℕ). kind_of 2 0 n (byte_at (s ++ y) 0) (byte_at (s ++ y) 1) u) h.0
@@ -48,13 +49,6 @@ body_few u (control s b) h = omega arith
 body_few u (bulk_out p) h = h
 body_few u (bulk_in b) h = omega arith
 body_few u (set_switch x n) h = omega arith
-
-is_kind_lem : (e : Event) → is_kind (kind_for e) ≡ true
-is_kind_lem bus_reset = refl
-is_kind_lem (control s b) = refl
-is_kind_lem (bulk_out p) = refl
-is_kind_lem (bulk_in b) = refl
-is_kind_lem (set_switch x n) = refl
 
 event_back : (u : ℕ) (e : Event) → Recordable u e → event_of (kind_for e) (body_of e) ≡ e
 unfolding event_of
@@ -71,7 +65,7 @@ module _ (u : ℕ) (e : Event) (es : List Event) (x : List ℕ) (h : Recordable 
   unfolding table low bytes_at
   entry_length = two (length (body_of e)) (let l = body_few u e h in omega arith)
 
-  entry-kind : (y : List ℕ) → kind_in u (table (e ∷ es) ++ x) (body_of e ++ y) ≡ kind_for e
+  entry-kind : (y : List ℕ) → kind_in u (table (e ∷ es) ++ x) (body_of e ++ y) ≡ Some (kind_for e)
   unfolding table
   entry-kind y = ap (λ (n : ℕ). kind_of (number_of_kind e) 0 n (byte_at (body_of e ++ y) 0) (byte_at (body_of e ++ y) 1) u) entry_length ∙ kind_is u e y h
 
@@ -79,15 +73,15 @@ module _ (u : ℕ) (e : Event) (es : List Event) (x : List ℕ) (h : Recordable 
   unfolding table low
   entry-rest = refl
 
-formed-cons : (u n : ℕ) (t b : List ℕ) (k : Kind) (l : ℕ) (r : List ℕ) → kind_in u t b ≡ k → length_in t ≡ l → drop 4 t ≡ r
-    → formed u (suc n) t b ≡ (is_kind k and leb l (length b) and formed u n r (drop l b))
+formed-cons : (u n : ℕ) (t b : List ℕ) (k : Kind) (l : ℕ) (r : List ℕ) → kind_in u t b ≡ Some k → length_in t ≡ l → drop 4 t ≡ r
+    → formed u (suc n) t b ≡ (is_kind (Some k) and leb l (length b) and formed u n r (drop l b))
 unfolding formed
 formed-cons u n t b k l r p q d = λ i. is_kind (p i) and leb (q i) (length b) and formed u n (d i) (drop (q i) b)
 
-events-cons : (u n : ℕ) (t b : List ℕ) (k : Kind) (l : ℕ) (r : List ℕ) → kind_in u t b ≡ k → length_in t ≡ l → drop 4 t ≡ r
+events-cons : (u n : ℕ) (t b : List ℕ) (k : Kind) (l : ℕ) (r : List ℕ) → kind_in u t b ≡ Some k → length_in t ≡ l → drop 4 t ≡ r
     → events_in u (suc n) t b ≡ event_of k (take l b) ∷ events_in u n r (drop l b)
 unfolding events_in
-events-cons u n t b k l r p q d = λ i. event_of (p i) (take (q i) b) ∷ events_in u n (d i) (drop (q i) b)
+events-cons u n t b k l r p q d = λ i. event_in (p i) (take (q i) b) ∷ events_in u n (d i) (drop (q i) b)
 
 formed-written : (u : ℕ) (es : List Event) (x : List ℕ) → AllRecordable u es → formed u (length es) (table es ++ x) (bodies es) ≡ true
 unfolding AllRecordable bodies formed
@@ -96,7 +90,7 @@ formed-written u (e ∷ es) x h =
     let n = length-append (body_of e) (bodies es) in
     formed-cons u (length es) (table (e ∷ es) ++ x) (body_of e ++ bodies es) (kind_for e) (length (body_of e)) (table es ++ x)
     (entry-kind u e es x h.0 (bodies es)) (entry_length u e es x h.0) (entry-rest u e es x h.0)
-    ∙ and_true _ _ (is_kind_lem e) (and_true _ _ (le-leb (length (body_of e)) (length (body_of e ++ bodies es)) (omega arith))
+    ∙ and_true _ _ refl (and_true _ _ (le-leb (length (body_of e)) (length (body_of e ++ bodies es)) (omega arith))
     (ap (formed u (length es) (table es ++ x)) (drop-append_seam (body_of e) (bodies es)) ∙ formed-written u es x h.1))
 
 events-written : (u : ℕ) (es : List Event) (x : List ℕ) → AllRecordable u es → events_in u (length es) (table es ++ x) (bodies es) ≡ es

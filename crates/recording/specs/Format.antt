@@ -1,12 +1,12 @@
 -- A recording's format (document 01, "The bench recording"; document 02, A4 and A7), for a collector of so many units.
-use Rattle.std.specs.Prelude.{ℕ, zero, suc, ◌+◌, ◌*◌, ◌≤◌, ◌<◌, ◌≡◌, Bool, true, false, List, [], ◌∷◌, ◌++◌, leb, ltb, eqb, length, take, drop}
+use Rattle.std.specs.Prelude.{ℕ, zero, suc, ◌+◌, ◌*◌, ◌≤◌, ◌<◌, ◌≡◌, Bool, true, false, List, [], ◌∷◌, ◌++◌, leb, ltb, eqb, length, take, drop, Option, Some, None}
 use Rattle.wire.specs.Choice.{when◌then◌else◌, ◌and◌}
 use Rattle.wire.specs.Slices.{byte_at, bytes_at, zeros}
 use Rattle.wire.specs.Numbers.{little, little_bytes}
 use Rattle.machine.specs.Units.{switch_fits}
 use Rattle.machine.specs.Machine.{Event, bus_reset, control, bulk_out, bulk_in, set_switch}
 use Rattle.recording.specs.declared.cursor.Kind.{Kind}
-use Rattle.recording.specs.declared.cursor.Kind.TheVariants.{Reset, Control, Out, Ask, Switch, Malformed}
+use Rattle.recording.specs.declared.cursor.Kind.TheVariants.{Reset, Control, Out, Ask, Switch}
 
 -- "at most 16,384 bytes", "a count (two bytes, at most 1,024)"
 abbrev pub most_bytes : ℕ
@@ -20,30 +20,26 @@ most_events = 1024
 -- "Kinds: 1 bus reset (length 0), 2 control (8), 3 bulk-out (0 to 64), 4 bulk-in ask (0). Anything else .. is 16";
 -- "The bench recording gains kind 5, with one body byte 00 or 01" (document 02, A4); "the switch event names its unit in a second body byte (beyond the table: ..; on the
 -- bench 16)" (A7): the position and the unit are the body's first two bytes, the last number says how many units there are.
-unfoldable pub kind_of : ℕ → ℕ → ℕ → ℕ → ℕ → ℕ → Kind
+unfoldable pub kind_of : ℕ → ℕ → ℕ → ℕ → ℕ → ℕ → Option Kind
 kind_of first second n position unit units =
     when eqb second 0
-    then (when eqb first 1 then (when eqb n 0 then Reset else Malformed)
-    else (when eqb first 2 then (when eqb n 8 then Control else Malformed)
-    else (when eqb first 3 then (when leb n 64 then Out else Malformed)
-    else (when eqb first 4 then (when eqb n 0 then Ask else Malformed)
-    else (when eqb first 5 then (when eqb n 2 and switch_fits position and ltb unit units then Switch else Malformed)
-    else Malformed)))))
-    else Malformed
+    then (when eqb first 1 then (when eqb n 0 then Some Reset else None)
+    else (when eqb first 2 then (when eqb n 8 then Some Control else None)
+    else (when eqb first 3 then (when leb n 64 then Some Out else None)
+    else (when eqb first 4 then (when eqb n 0 then Some Ask else None)
+    else (when eqb first 5 then (when eqb n 2 and switch_fits position and ltb unit units then Some Switch else None)
+    else None)))))
+    else None
 
-abbrev pub is_kind : Kind → Bool
-is_kind Reset = true
-is_kind Control = true
-is_kind Out = true
-is_kind Ask = true
-is_kind Switch = true
-is_kind Malformed = false
+abbrev pub is_kind : Option Kind → Bool
+is_kind (Some k) = true
+is_kind None = false
 
 -- The body's length that the first entry of a table gives, and the kind that it gives with the bodies.
 abbrev pub length_in : List ℕ → ℕ
 length_in table = little (bytes_at 2 2 table)
 
-abbrev pub kind_in : ℕ → List ℕ → List ℕ → Kind
+abbrev pub kind_in : ℕ → List ℕ → List ℕ → Option Kind
 kind_in units table bodies = kind_of (byte_at table 0) (byte_at table 1) (length_in table) (byte_at bodies 0) (byte_at bodies 1) units
 
 -- ---- the whole
@@ -56,8 +52,7 @@ formed units (suc n) table bodies =
     and leb (length_in table) (length bodies)
     and formed units n (drop 4 table) (drop (length_in table) bodies)
 
--- The event of a kind and a body. Control requests and asks are lent 64 zeros, for each event anew. No event has the
--- kind Malformed: what it gives here is never looked at.
+-- The event of a kind and a body. Control requests and asks are lent 64 zeros, for each event anew.
 abbrev pub lent_buffer : List ℕ
 lent_buffer = zeros 64
 
@@ -67,12 +62,16 @@ event_of Control s = control s lent_buffer
 event_of Out s = bulk_out s
 event_of Ask s = bulk_in lent_buffer
 event_of Switch s = set_switch (byte_at s 0) (byte_at s 1)
-event_of Malformed s = bus_reset
+
+-- The same where there may be no kind: no event has none, and what it gives here is never looked at.
+abbrev pub event_in : Option Kind → List ℕ → Event
+event_in (Some k) s = event_of k s
+event_in None s = bus_reset
 
 unfoldable pub events_in : ℕ → ℕ → List ℕ → List ℕ → List Event
 events_in units zero table bodies = []
 events_in units (suc n) table bodies =
-    event_of (kind_in units table bodies) (take (length_in table) bodies) ∷ events_in units n (drop 4 table) (drop (length_in table) bodies)
+    event_in (kind_in units table bodies) (take (length_in table) bodies) ∷ events_in units n (drop 4 table) (drop (length_in table) bodies)
 
 abbrev pub count_of : List ℕ → ℕ
 count_of s = little (bytes_at 2 0 s)

@@ -1,4 +1,4 @@
-// The reading head: a recording and a place in it. Its functions take it apart and call the plain cursor reader.
+// The reading head: a recording and a place in it. It reads by the plain cursor reader, and keeps the place.
 ghost use Rattle.std.specs.Prelude.{◌≡◌};
 ghost use Rattle.recording.specs.Cursor.{read_at, numbered};
 
@@ -11,31 +11,30 @@ pub struct Head<'a> {
     pub body: usize,
 }
 
-// The head at a place of a recording.
-pub fn new<'a>(recording: &'a [u8], entry: usize, body: usize) -> Head<'a>
-    ensures { (result.recording ≡ recording.entry) × (result.entry ≡ entry) × (result.body ≡ body) }
-{
-    Head {
-        recording,
-        entry,
-        body,
+impl<'a> Head<'a> {
+    // The head at a place of a recording.
+    pub fn new(recording: &'a [u8], entry: usize, body: usize) -> Head<'a>
+        ensures recording { result.recording ≡ recording.entry }
+        ensures entry { result.entry ≡ entry }
+        ensures body { result.body ≡ body }
+    {
+        Head {
+            recording,
+            entry,
+            body,
+        }
     }
-}
 
-// The event under the head, where the collector has so many units, and the next place.
-pub fn next<'a>(h: Head<'a>, units: usize) -> Reading
-    ensures { numbered result ≡ numbered (read_at units h.entry.recording.now h.entry.entry h.entry.body) }
-{
-    read_at(h.recording, h.entry, h.body, units)
-}
-
-// The head moved on past an event that was read.
-pub fn moved<'a>(h: Head<'a>, past: Reading) -> Head<'a>
-    ensures { (result.recording ≡ h.entry.recording) × (result.entry ≡ past.entry) × (result.body ≡ past.body) }
-{
-    Head {
-        recording: h.recording,
-        entry: past.entry,
-        body: past.body,
+    // The event under the head, where the collector has so many units. The head moves on to the next place.
+    pub fn next(&mut self, units: usize) -> Reading
+        ensures read { numbered result ≡ numbered (read_at units self.old.recording.now self.old.entry self.old.body) }
+        ensures recording { self.new.recording ≡ self.old.recording }
+        ensures entry { self.new.entry ≡ result.entry }
+        ensures body { self.new.body ≡ result.body }
+    {
+        let reading = read_at(self.recording, self.entry, self.body, units);
+        self.entry = reading.entry;
+        self.body = reading.body;
+        reading
     }
 }

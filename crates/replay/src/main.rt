@@ -3,131 +3,91 @@
 // units of different sizes; all others as the bench plays them.
 #![tactic(auto)]
 
-ghost use Rattle.std.specs.Prelude.{◌≡◌, ◌≤◌, length, take};
+ghost use Rattle.std.specs.Prelude.{◌≤◌};
 
+use machine::record::LogicalUnit;
 use player::play::{MEDIUM, ROOM, play, play_over};
-use player::tables::{four, one, part};
+use player::tables::part;
+use std::alloc::AllocError;
 use std::env::FillError;
 use std::fs::File;
 use std::io::{Read, Write};
 use std::rt::{Env, Files};
 use std::{io, str};
-use units::table::Units;
-use wire::slices::starts_with;
 
-// Reads until buf is full, the input ends or a read fails, and returns how many bytes it put at the start of buf.
-fn read_full(from: &mut impl Read, buf: &mut [u8]) -> usize
-    ensures fits { result ≤ length buf.new }
-    ensures front { result ≡ length (take result buf.new) }
-{
-    let mut done = 0;
-    while done < buf.len() {
-        let n = from.read(&mut buf[done..]).unwrap_or(0);
-        if n == 0 {
-            break;
+// One byte more than a recording may have, so that a longer file is seen to be longer.
+const MOST_READ: usize = 16385;
+
+// A file that cannot be opened counts as empty, and so does one whose name is not UTF-8; one of which a read fails ends there.
+fn load(rt: &(impl Files + AllocGlobal), name: &[u8]) -> Result<Vec<u8>, AllocError> {
+    let mut input = Vec::with_capacity(rt.alloc(), MOST_READ)?;
+    if let Ok(path) = str::from_utf8(name) {
+        if let Ok(file) = File::open(rt, path) {
+            let _ = file.take(MOST_READ as u64).read_to_end(&mut input);
         }
-        done += n;
     }
-    done
+    Ok(input)
 }
 
-// A file that cannot be read counts as empty, and so does one whose name is not UTF-8.
-fn load(rt: &impl Files, name: &[u8], input: &mut [u8; 16385]) -> usize
-    ensures fits { result ≤ length input.new }
-    ensures front { result ≡ length (take result input.new) }
+// Writes a recording's name, and what is printed of it when it is played.
+fn replay<P: FnOnce(&[u8], &mut [u8; ROOM]) -> usize>(
+    rt: &(impl Files + AllocGlobal),
+    out: &mut impl Write,
+    name: &[u8],
+    play: P,
+) -> io::Result<()>
+    requires called { P.IsAlwaysCallable play }
+    requires within { (s : _) (t : _) (end : _) (u : _) → P.post play s t end u → end ≤ ROOM }
 {
-    let Ok(path) = str::from_utf8(name) else {
-        return 0;
-    };
-    match File::open(rt, path) {
-        Ok(mut file) => read_full(&mut file, input),
-        Err(_) => 0,
-    }
-}
-
-fn show(out: &mut impl Write, name: &[u8], text: &[u8]) -> io::Result<()> {
+    let input = load(rt, name)?;
+    let mut text = [0; ROOM];
+    let end = play(input.as_slice(), &mut text);
     out.write_all(name)?;
-    out.write_all(b"\n")?;
-    out.write_all(text)
-}
-
-// Puts an argument at the start of name and returns its length, or 0 where it is missing or longer than name.
-fn named(rt: &impl Env, argument: usize, name: &mut [u8; 64]) -> usize
-    ensures fits { result ≤ length name.new }
-    ensures front { result ≡ length (take result name.new) }
-{
-    rt.arg(argument, name).unwrap_or(0)
+    writeln!(out)?;
+    out.write_all(&text[..end])
 }
 
 fn over(
-    rt: &(impl Env + Files),
+    rt: &(impl Files + AllocGlobal),
     out: &mut impl Write,
-    argument: usize,
-    units: Units,
+    name: &[u8],
+    units: &mut [LogicalUnit],
     medium: &mut [u8],
 ) -> io::Result<()> {
-    let mut name = [0; 64];
-    let n = named(rt, argument, &mut name);
-    let mut input = [0; 16385];
-    let mut text = [0; ROOM];
-    let got = load(rt, &name[..n], &mut input);
-    let end = play_over(&input[..got], units, medium, &mut text);
-    show(out, &name[..n], &text[..end])
+    replay(rt, out, name, |input, text| {
+        play_over(input, units, medium, text)
+    })
 }
 
-fn over_128_blocks(
-    rt: &(impl Env + Files),
+fn on_the_bench(
+    rt: &(impl Files + AllocGlobal),
     out: &mut impl Write,
-    argument: usize,
+    name: &[u8],
 ) -> io::Result<()> {
-    let mut medium = [0; 65536];
-    over(rt, out, argument, one(part(0, 128)), &mut medium)
-}
-
-// 64, 7, 1 and 128 blocks.
-fn over_four_units(
-    rt: &(impl Env + Files),
-    out: &mut impl Write,
-    argument: usize,
-) -> io::Result<()> {
-    let mut medium = [0; 102400];
-    let units = four(part(0, 64), part(64, 7), part(71, 1), part(72, 128));
-    over(rt, out, argument, units, &mut medium)
-}
-
-fn on_the_bench(rt: &(impl Env + Files), out: &mut impl Write, argument: usize) -> io::Result<()> {
-    let mut name = [0; 64];
-    let n = named(rt, argument, &mut name);
-    let mut input = [0; 16385];
-    let mut medium = [0; MEDIUM];
-    let mut text = [0; ROOM];
-    let got = load(rt, &name[..n], &mut input);
-    let end = play(&input[..got], &mut medium, &mut text);
-    show(out, &name[..n], &text[..end])
-}
-
-// Whether an argument names a recording for four units.
-fn is_for_four(rt: &impl Env, argument: usize) -> bool {
-    let mut name = [0; 64];
-    let n = named(rt, argument, &mut name);
-    starts_with(&name[..n], b"units-")
-}
-
-fn is_missing(rt: &impl Env, argument: usize) -> bool {
-    matches!(rt.arg(argument, &mut []), Err(FillError::NotPresent))
+    replay(rt, out, name, |input, text| {
+        play(input, &mut [0; MEDIUM], text)
+    })
 }
 
 fn main(rt: HostRuntime) -> io::Result<()> {
     let mut out = rt.stdout();
-    over_128_blocks(&rt, &mut out, 1)?;
-    for i in 2..usize::MAX {
-        if is_missing(&rt, i) {
-            break;
-        }
-        if is_for_four(&rt, i) {
-            over_four_units(&rt, &mut out, i)?;
+    let mut argument = [0; 64];
+    let first = rt.arg(1, &mut argument).unwrap_or(0);
+    let sheet = &mut [part(0, 128)];
+    over(&rt, &mut out, &argument[..first], sheet, &mut [0; 65536])?;
+    for i in 2.. {
+        let length = match rt.arg(i, &mut argument) {
+            Ok(length) => length,
+            // A name that is longer counts as empty.
+            Err(FillError::TooLong) => 0,
+            Err(FillError::NotPresent) => break,
+        };
+        let name = &argument[..length];
+        if name.starts_with(b"units-") {
+            let units = &mut [part(0, 64), part(64, 7), part(71, 1), part(72, 128)];
+            over(&rt, &mut out, name, units, &mut [0; 102400])?;
         } else {
-            on_the_bench(&rt, &mut out, i)?;
+            on_the_bench(&rt, &mut out, name)?;
         }
     }
     Ok(())

@@ -6,18 +6,18 @@ use mathlib.Core.Bool.{Bool, true, false}
 use mathlib.Core.List.{List, [], ◌∷◌}
 use native.Mathlib.Omega.{arith}
 use borrow.Author.Tests.{leb-true, le-leb, lt-leb}
+use Rattle.std.specs.Prelude.{Option, Some, None}
 use Rattle.wire.specs.Choice.{when◌then◌else◌, look}
 use Rattle.wire.specs.Bits.{bits, clear}
 use Rattle.wire.specs.Numbers.{big}
 use Rattle.wire.specs.Slices.{byte_at, bytes_at, zeros}
 use Rattle.wire.proofs.Cases.{by-if, if-true, if-false, look-all, look_keyed}
 use Rattle.wire.proofs.Lists.{bytes_same}
+use Rattle.scsi.specs.declared.page.Page.{Page}
 use Rattle.scsi.specs.declared.command.Plan.{Plan}
 use Rattle.scsi.specs.declared.command.Plan.TheVariants.{Failed, Nothing, Reply, Read, Write}
 use Rattle.scsi.specs.declared.reply.ReplyKind.{ReplyKind}
 use Rattle.scsi.specs.declared.reply.ReplyKind.TheVariants as kind
-use Rattle.scsi.specs.declared.page.Listed.{Listed}
-use Rattle.scsi.specs.declared.page.Listed.TheVariants.{Missing, Found}
 use Rattle.scsi.specs.Sense.{invalid_field, out_of_range}
 use Rattle.scsi.specs.Page.{page_code, page_of}
 use Rattle.scsi.specs.Claims.{PagesServed, FirstOutside, RangesRefused, WritesProtected}
@@ -37,10 +37,10 @@ cut_fits : (blocks : ℕ) (k : ReplyKind) (allocated : ℕ) → PlanFits blocks 
 unfolding cut
 cut_fits blocks k allocated = omega arith
 
-paged-fits : (blocks : ℕ) (p : Listed) (allocated : ℕ) → PlanFits blocks (paged p allocated)
+paged-fits : (blocks : ℕ) (p : Option Page) (allocated : ℕ) → PlanFits blocks (paged p allocated)
 unfolding paged
-paged-fits blocks Missing allocated = tt
-paged-fits blocks (Found p) allocated = cut_fits blocks (kind.Page p) allocated
+paged-fits blocks None allocated = tt
+paged-fits blocks (Some p) allocated = cut_fits blocks (kind.Page p) allocated
 
 inquired-fits : (blocks : ℕ) (b : List ℕ) → PlanFits blocks (inquired b)
 unfolding inquired
@@ -137,8 +137,8 @@ asked code hi lo blocks protected = refl
 pub pages-served : PagesServed
 unfolding paged
 pages-served = record {
-  page = λ p hi lo blocks protected. asked (page_code p) hi lo blocks protected ∙ ap (λ (l : Listed). paged l (big (hi ∷ lo ∷ []))) (code-found p);
-  other = λ code hi lo blocks protected e. asked code hi lo blocks protected ∙ ap (λ (l : Listed). paged l (big (hi ∷ lo ∷ []))) e;
+  page = λ p hi lo blocks protected. asked (page_code p) hi lo blocks protected ∙ ap (λ (l : Option Page). paged l (big (hi ∷ lo ∷ []))) (code-found p);
+  other = λ code hi lo blocks protected e. asked code hi lo blocks protected ∙ ap (λ (l : Option Page). paged l (big (hi ∷ lo ∷ []))) e;
 }
 
 -- ---- blocks outside the unit

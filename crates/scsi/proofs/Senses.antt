@@ -3,14 +3,14 @@ use Prim.Native.Nat.{ℕ, ◌≤◌}
 use mathlib.Core.Bool.{Bool}
 use mathlib.Core.List.{List}
 use native.Mathlib.Omega.{arith}
+use Rattle.std.specs.Prelude.{Option, Some, None}
 use Rattle.wire.specs.Slices.{byte_at}
 use Rattle.wire.proofs.Cases.{by-if, look-all}
+use Rattle.scsi.specs.declared.page.Page.{Page}
 use Rattle.scsi.specs.declared.sense.Sense.{Sense}
 use Rattle.scsi.specs.declared.command.Plan.{Plan}
 use Rattle.scsi.specs.declared.command.Plan.TheVariants.{Failed, Nothing, Reply, Read, Write}
 use Rattle.scsi.specs.declared.reply.ReplyKind.{ReplyKind}
-use Rattle.scsi.specs.declared.page.Listed.{Listed}
-use Rattle.scsi.specs.declared.page.Listed.TheVariants.{Missing, Found}
 use Rattle.scsi.specs.Page.{page_of}
 use Rattle.scsi.specs.Sense.{IsSense, no_sense, invalid_code, invalid_field, out_of_range, write_protected, data_phase}
 use Rattle.scsi.specs.Command.{Command, inquiry_allocation, cut, paged, inquired, within, unless_protected, address, count, commands, unknown, command_of, plan_by, control_clear, plan_of}
@@ -44,10 +44,10 @@ module _ (P : Sense → Type 0) where
   unfolding cut
   cuts k allocated n f p b = tt
 
-  pages : (p : Listed) (allocated : ℕ) → P invalid_field → PlanSense P (paged p allocated)
+  pages : (p : Option Page) (allocated : ℕ) → P invalid_field → PlanSense P (paged p allocated)
   unfolding paged cut
-  pages Missing allocated h = h
-  pages (Found p) allocated h = tt
+  pages None allocated h = h
+  pages (Some p) allocated h = tt
 
   inquiries : (n : ℕ) → Failing P n → (p : Bool) (b : List ℕ) → PlanSense P (inquired b)
   unfolding inquired cut

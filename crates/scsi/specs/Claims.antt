@@ -1,12 +1,11 @@
 -- What is claimed of replies, pages, refused blocks and refused Writes. Proved in proofs/Replies.antt, proofs/Pages.antt and proofs/Plans.antt.
-use Rattle.std.specs.Prelude.{ℕ, ◌+◌, ◌≤◌, ◌<◌, ◌^◌, ◌≡◌, Bool, true, false, List, [], ◌∷◌, ◌++◌, length}
+use Rattle.std.specs.Prelude.{ℕ, ◌+◌, ◌≤◌, ◌<◌, ◌^◌, ◌≡◌, Bool, true, false, List, [], ◌∷◌, ◌++◌, length, None}
 use Rattle.wire.specs.Numbers.{big, big_bytes}
 use Rattle.wire.specs.Slices.{byte_at, zeros}
 use Rattle.wire.specs.Texts.{ascii, serial_text}
 use Rattle.scsi.specs.declared.command.Plan.TheVariants.{Failed}
 use Rattle.scsi.specs.declared.page.Page.{Page}
 use Rattle.scsi.specs.declared.page.Page.TheVariants.{Supported, Serial, Identification}
-use Rattle.scsi.specs.declared.page.Listed.TheVariants.{Missing}
 use Rattle.scsi.specs.declared.reply.ReplyKind.TheVariants as kind
 use Rattle.scsi.specs.declared.reply.Reply.{Reply}
 use Rattle.scsi.specs.declared.sense.Sense.{Sense}
@@ -22,7 +21,7 @@ Sizes = (number : ℕ) (r : Reply) → length (reply_data number r) ≡ reply_si
 -- With EVPD set: a page that is served is cut to the allocation length, "other pages fail 05/24/00" whatever that is.
 pub record PagesServed : Type 0 where
   pub page : (p : Page) (hi lo blocks : ℕ) (protected : Bool) → plan_of (0x12 ∷ 0x01 ∷ page_code p ∷ hi ∷ lo ∷ 0x00 ∷ []) blocks protected ≡ cut (kind.Page p) (big (hi ∷ lo ∷ []))
-  pub other : (code hi lo blocks : ℕ) (protected : Bool) → page_of code ≡ Missing → plan_of (0x12 ∷ 0x01 ∷ code ∷ hi ∷ lo ∷ 0x00 ∷ []) blocks protected ≡ Failed invalid_field
+  pub other : (code hi lo blocks : ℕ) (protected : Bool) → page_of code ≡ None → plan_of (0x12 ∷ 0x01 ∷ code ∷ hi ∷ lo ∷ 0x00 ∷ []) blocks protected ≡ Failed invalid_field
 
 -- The three pages' bytes, in full.
 pub record PageBytes : Type 0 where

@@ -1,5 +1,5 @@
 -- What the device has for a command (document 01, "Commands"; document 02, A1, A2, A4, A8 and A12): one row for each operation code.
-use Rattle.std.specs.Prelude.{ℕ, ◌+◌, ◌-◌, min, max, Bool, true, List, [], ◌∷◌, eqb, leb}
+use Rattle.std.specs.Prelude.{ℕ, ◌+◌, ◌-◌, min, max, Bool, true, List, [], ◌∷◌, eqb, leb, Option, Some, None}
 use Rattle.wire.specs.Choice.{when◌then◌else◌, ◌and◌, Row, row, look}
 use Rattle.wire.specs.Slices.{byte_at, bytes_at}
 use Rattle.wire.specs.Numbers.{big}
@@ -8,8 +8,7 @@ use Rattle.scsi.specs.declared.command.Plan.{Plan}
 use Rattle.scsi.specs.declared.command.Plan.TheVariants.{Failed, Nothing, Reply, Read, Write}
 use Rattle.scsi.specs.declared.reply.ReplyKind.{ReplyKind}
 use Rattle.scsi.specs.declared.reply.ReplyKind.TheVariants as kind
-use Rattle.scsi.specs.declared.page.Listed.{Listed}
-use Rattle.scsi.specs.declared.page.Listed.TheVariants.{Missing, Found}
+use Rattle.scsi.specs.declared.page.Page.{Page}
 use Rattle.scsi.specs.Sense.{invalid_code, invalid_field, out_of_range, write_protected}
 use Rattle.scsi.specs.Page.{page_of}
 use Rattle.scsi.specs.Reply.{reply_size}
@@ -40,9 +39,9 @@ unfoldable pub cut : ReplyKind → ℕ → Plan
 cut k allocated = Reply k (min allocated (reply_size k))
 
 -- "Inquiry serves page 00 .., 80 .. and 83 ... Other pages fail 05/24/00." (document 02, A2)
-unfoldable pub paged : Listed → ℕ → Plan
-paged Missing allocated = Failed invalid_field
-paged (Found p) allocated = cut (kind.Page p) allocated
+unfoldable pub paged : Option Page → ℕ → Plan
+paged None allocated = Failed invalid_field
+paged (Some p) allocated = cut (kind.Page p) allocated
 
 -- "With byte 1 bit 0 set", EVPD, the page of byte 2; with it clear the standard data, byte 2 being 0 (SPC-3, 6.4.1).
 unfoldable pub inquired : List ℕ → Plan

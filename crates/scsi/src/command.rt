@@ -5,7 +5,7 @@ ghost use Rattle.scsi.specs.Command.{block_length, control_clear, plan_of, plan_
 ghost use Rattle.scsi.specs.Page.{page_of};
 ghost use Rattle.scsi.specs.Command.{request_sense, inquiry, mode_sense, prevent_allow, read10, write10, verify10};
 
-use crate::page::{Listed, page_of};
+use crate::page::page_of;
 use crate::reply::{ReplyKind, reply_size};
 use crate::sense::Sense;
 use wire::fields::{be16, be32};
@@ -41,11 +41,11 @@ pub fn block_length(code: u8) -> u8
 fn is_control_clear(block: &[u8]) -> bool
     ensures { result ≡ control_clear block.now }
 {
-    let size = block_length(byte(block, 0));
-    if size <= 1 {
-        return true;
+    match block_length(byte(block, 0)) {
+        // Of an unknown code it is not known which byte that is.
+        0 | 1 => true,
+        size => byte(block, (size - 1) as usize) & 0x07 == 0,
     }
-    byte(block, (size - 1) as usize) & 0x07 == 0
 }
 
 pub fn plan_of(block: &[u8], blocks: u32, protected: bool) -> Plan
@@ -54,8 +54,7 @@ pub fn plan_of(block: &[u8], blocks: u32, protected: bool) -> Plan
     if !is_control_clear(block) {
         return Plan::Failed(Sense::INVALID_FIELD);
     }
-    let code = byte(block, 0);
-    match code {
+    match byte(block, 0) {
         0x00 => Plan::Nothing,
         0x03 => request_sense(block),
         0x12 => inquiry(block),
@@ -76,11 +75,7 @@ pub fn plan_of(block: &[u8], blocks: u32, protected: bool) -> Plan
 fn cut(kind: ReplyKind, allocated: u16) -> Plan
     ensures { result ≡ cut kind allocated }
 {
-    let size = reply_size(kind);
-    if allocated < (size as u16) {
-        let sent = allocated as u8;
-        return Plan::Reply { kind, size: sent };
-    }
+    let size = allocated.min(reply_size(kind) as u16) as u8;
     Plan::Reply { kind, size }
 }
 
@@ -96,8 +91,8 @@ fn page(code: u8, allocated: u16) -> Plan
     ensures { result ≡ paged (page_of code) allocated }
 {
     match page_of(code as u32) {
-        Listed::Missing => Plan::Failed(Sense::INVALID_FIELD),
-        Listed::Found(page) => cut(ReplyKind::Page(page), allocated),
+        Some(page) => cut(ReplyKind::Page(page), allocated),
+        None => Plan::Failed(Sense::INVALID_FIELD),
     }
 }
 
@@ -105,7 +100,7 @@ fn page(code: u8, allocated: u16) -> Plan
 fn first_outside(address: u32, blocks: u32) -> u32
     ensures { result ≡ first_outside address blocks }
 {
-    if address < blocks { blocks } else { address }
+    address.max(blocks)
 }
 
 // What a unit has for a Write, if it is not write protected.
@@ -113,9 +108,10 @@ fn unless_protected(protected: bool, given: Plan) -> Plan
     ensures { result ≡ unless_protected protected given }
 {
     if protected {
-        return Plan::Failed(Sense::WRITE_PROTECTED);
+        Plan::Failed(Sense::WRITE_PROTECTED)
+    } else {
+        given
     }
-    given
 }
 
 // A command on blocks has what is given, if its flags are clear and its blocks lie in the unit.
@@ -129,52 +125,56 @@ fn ranged(block: &[u8], blocks: u32, given: Plan) -> Plan
     let first = be32(block, 2);
     let count = be16(block, 7);
     if (blocks as u64) < (first as u64) + (count as u64) {
-        return Plan::Failed(Sense::out_of_range(first_outside(first, blocks)));
+        Plan::Failed(Sense::out_of_range(first_outside(first, blocks)))
+    } else {
+        given
     }
-    given
 }
 
 fn request_sense(block: &[u8]) -> Plan
     ensures { (n : ℕ) (p : Bool) → result ≡ plan_by request_sense n p block.now }
 {
     if byte(block, 1) & 0x01 != 0 {
-        return Plan::Failed(Sense::INVALID_FIELD);
+        Plan::Failed(Sense::INVALID_FIELD)
+    } else {
+        reply(ReplyKind::Sense, block)
     }
-    reply(ReplyKind::Sense, block)
 }
 
 // With EVPD set a page, else the standard data.
 fn inquiry(block: &[u8]) -> Plan
     ensures { (n : ℕ) (p : Bool) → result ≡ plan_by inquiry n p block.now }
 {
-    let evpd = byte(block, 1) & 0x01;
+    let evpd = byte(block, 1) & 0x01 != 0;
     let code = byte(block, 2);
     let allocated = be16(block, 3);
-    if evpd != 0 {
-        return page(code, allocated);
+    if evpd {
+        page(code, allocated)
+    } else if code == 0 {
+        cut(ReplyKind::Inquiry, allocated)
+    } else {
+        Plan::Failed(Sense::INVALID_FIELD)
     }
-    if code != 0 {
-        return Plan::Failed(Sense::INVALID_FIELD);
-    }
-    cut(ReplyKind::Inquiry, allocated)
 }
 
 fn mode_sense(block: &[u8]) -> Plan
     ensures { (n : ℕ) (p : Bool) → result ≡ plan_by mode_sense n p block.now }
 {
-    if byte(block, 2) != 0x3F {
-        return Plan::Failed(Sense::INVALID_FIELD);
+    if byte(block, 2) == 0x3F {
+        reply(ReplyKind::ModeSense, block)
+    } else {
+        Plan::Failed(Sense::INVALID_FIELD)
     }
-    reply(ReplyKind::ModeSense, block)
 }
 
 fn prevent_allow(block: &[u8]) -> Plan
     ensures { (n : ℕ) (p : Bool) → result ≡ plan_by prevent_allow n p block.now }
 {
     if byte(block, 4) & 0x01 != 0 {
-        return Plan::Failed(Sense::INVALID_FIELD);
+        Plan::Failed(Sense::INVALID_FIELD)
+    } else {
+        Plan::Nothing
     }
-    Plan::Nothing
 }
 
 fn read10(block: &[u8], blocks: u32) -> Plan
@@ -205,7 +205,8 @@ fn verify10(block: &[u8], blocks: u32) -> Plan
     ensures { (p : Bool) → result ≡ plan_by verify10 blocks p block.now }
 {
     if byte(block, 1) & 0x02 != 0 {
-        return Plan::Failed(Sense::INVALID_FIELD);
+        Plan::Failed(Sense::INVALID_FIELD)
+    } else {
+        ranged(block, blocks, Plan::Nothing)
     }
-    ranged(block, blocks, Plan::Nothing)
 }

@@ -6,7 +6,6 @@ ghost use Rattle.scsi.specs.Page.{page_of, page_code, page_size, page_data};
 
 use wire::digits::digits;
 use wire::packet::{Packet, packet_of};
-use wire::slices::put;
 use wire::texts::VENDOR;
 
 #[derive(Clone, Copy)]
@@ -19,25 +18,19 @@ pub enum Page {
     Identification,
 }
 
-// A page that is served, or none.
-#[derive(Clone, Copy)]
-pub enum Listed {
-    Missing,
-    Found(Page),
-}
-
-// The page with this code, which is a byte of a command block and 32 bits of C's record.
-pub fn page_of(code: u32) -> Listed
+// The page with this code, which is a byte of a command block and 32 bits of C's record; none, where no page is served.
+pub fn page_of(code: u32) -> Option<Page>
     ensures { result ≡ page_of code }
 {
     match code {
-        0x00 => Listed::Found(Page::Supported),
-        0x80 => Listed::Found(Page::Serial),
-        0x83 => Listed::Found(Page::Identification),
-        _ => Listed::Missing,
+        0x00 => Some(Page::Supported),
+        0x80 => Some(Page::Serial),
+        0x83 => Some(Page::Identification),
+        _ => None,
     }
 }
 
+// A field of the page, and no conversion of it: it is said of one page, while `page_of` looks for one.
 pub fn page_code(page: Page) -> u32
     ensures { result ≡ page_code page }
 {
@@ -74,8 +67,8 @@ fn serial_page(serial: [u8; 12]) -> [u8; 16]
     ensures { result ≡ 0x00 ∷ 0x80 ∷ 0x00 ∷ 0x0C ∷ serial }
 {
     let mut data = [0; 16];
-    put(&mut data, 0, &[0x00, 0x80, 0x00, 0x0C]);
-    put(&mut data, 4, &serial);
+    data[..4].copy_from_slice(&[0x00, 0x80, 0x00, 0x0C]);
+    data[4..].copy_from_slice(&serial);
     data
 }
 
@@ -83,14 +76,9 @@ fn serial_page(serial: [u8; 12]) -> [u8; 16]
 fn identification_page(serial: [u8; 12]) -> [u8; 28]
     ensures { result ≡ (0x00 ∷ 0x83 ∷ 0x00 ∷ 0x18 ∷ 0x02 ∷ 0x01 ∷ 0x00 ∷ 0x14 ∷ padded 8 vendor_text) ++ serial }
 {
-    let vendor = VENDOR;
     let mut data = [0x20; 28];
-    put(
-        &mut data,
-        0,
-        &[0x00, 0x83, 0x00, 0x18, 0x02, 0x01, 0x00, 0x14],
-    );
-    put(&mut data, 8, &vendor);
-    put(&mut data, 16, &serial);
+    data[..8].copy_from_slice(&[0x00, 0x83, 0x00, 0x18, 0x02, 0x01, 0x00, 0x14]);
+    data[8..15].copy_from_slice(&VENDOR);
+    data[16..].copy_from_slice(&serial);
     data
 }

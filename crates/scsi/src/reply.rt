@@ -7,9 +7,9 @@ use crate::page::{Page, page_bytes, page_size};
 use crate::sense::Sense;
 use wire::fields::put_be32;
 use wire::packet::{Packet, packet_of};
-use wire::slices::put;
 use wire::texts::{PRODUCT, VENDOR};
 
+// A reply before its values are found, as a plan has it.
 #[derive(Clone, Copy)]
 pub enum ReplyKind {
     Sense,
@@ -28,6 +28,7 @@ pub enum Reply {
     Capacity { blocks: u32 },
 }
 
+// It leaves the values out, so it is no conversion.
 pub fn kind_of(reply: Reply) -> ReplyKind
     ensures { result ≡ kind_of reply }
 {
@@ -35,8 +36,8 @@ pub fn kind_of(reply: Reply) -> ReplyKind
         Reply::Sense(_) => ReplyKind::Sense,
         Reply::Inquiry => ReplyKind::Inquiry,
         Reply::Page(page) => ReplyKind::Page(page),
-        Reply::ModeSense { protected: _ } => ReplyKind::ModeSense,
-        Reply::Capacity { blocks: _ } => ReplyKind::Capacity,
+        Reply::ModeSense { .. } => ReplyKind::ModeSense,
+        Reply::Capacity { .. } => ReplyKind::Capacity,
     }
 }
 
@@ -85,25 +86,20 @@ fn sense_data(sense: Sense) -> [u8; 18]
     ensures { result ≡ sense_data sense }
 {
     if sense.is_out_of_range() {
-        return fixed_format(0xF0, sense.information, sense);
+        fixed_format(0xF0, sense.information, sense)
+    } else {
+        fixed_format(0x70, 0, sense)
     }
-    fixed_format(0x70, 0, sense)
 }
 
 fn inquiry_data() -> [u8; 36]
     ensures { result ≡ inquiry_data }
 {
-    let vendor = VENDOR;
-    let product = PRODUCT;
     let mut data = [0x20; 36];
-    put(
-        &mut data,
-        0,
-        &[0x00, 0x80, 0x05, 0x02, 0x1F, 0x00, 0x00, 0x00],
-    );
-    put(&mut data, 8, &vendor);
-    put(&mut data, 16, &product);
-    put(&mut data, 32, b"0100");
+    data[..8].copy_from_slice(&[0x00, 0x80, 0x05, 0x02, 0x1F, 0x00, 0x00, 0x00]);
+    data[8..15].copy_from_slice(&VENDOR);
+    data[16..28].copy_from_slice(&PRODUCT);
+    data[32..].copy_from_slice(b"0100");
     data
 }
 
@@ -111,17 +107,14 @@ fn inquiry_data() -> [u8; 36]
 fn mode_data(protected: bool) -> [u8; 4]
     ensures { result ≡ mode_data protected }
 {
-    if protected {
-        return [0x03, 0x00, 0x80, 0x00];
-    }
-    [0x03, 0x00, 0x00, 0x00]
+    [0x03, 0x00, if protected { 0x80 } else { 0x00 }, 0x00]
 }
 
 // The last block's number, not the count; a unit of no blocks has none, and 0 stands for it.
 fn last_block(blocks: u32) -> u32
     ensures { result ≡ blocks - 1 }
 {
-    if blocks == 0 { 0 } else { blocks - 1 }
+    blocks.saturating_sub(1)
 }
 
 fn capacity_data(blocks: u32) -> [u8; 8]

@@ -4,7 +4,7 @@ ghost use Rattle.scsi.specs.Sense.{no_sense, out_of_range, is_no_sense, is_out_o
 
 // C sees this struct in its table of units.
 #[repr(C)]
-#[derive(Clone, Copy)]
+#[derive(Clone, Copy, PartialEq, Eq)]
 pub struct Sense {
     pub key: u8,
     pub asc: u8,
@@ -73,35 +73,13 @@ impl Sense {
     pub fn is_none(self) -> bool
         ensures { result ≡ is_no_sense self }
     {
-        let key = self.key;
-        let asc = self.asc;
-        let ascq = self.ascq;
-        let information = self.information;
-        if key != 0 {
-            return false;
-        }
-        if asc != 0 {
-            return false;
-        }
-        if ascq != 0 {
-            return false;
-        }
-        information == 0
+        self == Sense::NONE
     }
 
     // A range failure, whichever block it carries.
     pub fn is_out_of_range(self) -> bool
         ensures { result ≡ is_out_of_range self }
     {
-        let key = self.key;
-        let asc = self.asc;
-        let ascq = self.ascq;
-        if key != 0x05 {
-            return false;
-        }
-        if asc != 0x21 {
-            return false;
-        }
-        ascq == 0
+        self.key == 0x05 && self.asc == 0x21 && self.ascq == 0x00
     }
 }

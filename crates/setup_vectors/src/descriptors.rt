@@ -1,5 +1,5 @@
 // The descriptors of document 01.
-use crate::print::line;
+use hexprint::line;
 use std::io;
 use std::io::Write;
 use usb::descriptor::{Descriptor, Identity, descriptor_bytes};
@@ -13,7 +13,7 @@ fn numbered(number: u64) -> Identity {
     }
 }
 
-fn serial(out: &mut impl Write, name: &[u8], number: u64) -> io::Result<()> {
+fn serial(out: &mut impl Write, name: &str, number: u64) -> io::Result<()> {
     line(
         out,
         name,
@@ -21,15 +21,15 @@ fn serial(out: &mut impl Write, name: &[u8], number: u64) -> io::Result<()> {
     )
 }
 
-fn fixed(out: &mut impl Write, name: &[u8], which: Descriptor) -> io::Result<()> {
+fn fixed(out: &mut impl Write, name: &str, which: Descriptor) -> io::Result<()> {
     line(out, name, descriptor_bytes(which, numbered(42)))
 }
 
 pub(crate) fn run(out: &mut impl Write) -> io::Result<()> {
-    serial(out, b"serial 42:", 42)?;
-    serial(out, b"serial 0:", 0)?;
-    serial(out, b"serial 999999999999:", 999999999999)?;
-    fixed(out, b"device 0000 0000 0100:", Descriptor::Device)?;
+    serial(out, "serial 42:", 42)?;
+    serial(out, "serial 0:", 0)?;
+    serial(out, "serial 999999999999:", 999999999999)?;
+    fixed(out, "device 0000 0000 0100:", Descriptor::Device)?;
     // numbers that show their byte order and their places
     let other = Identity {
         number: 42,
@@ -39,11 +39,11 @@ pub(crate) fn run(out: &mut impl Write) -> io::Result<()> {
     };
     line(
         out,
-        b"device 1234 5678 9ABC:",
+        "device 1234 5678 9ABC:",
         descriptor_bytes(Descriptor::Device, other),
     )?;
-    fixed(out, b"configuration:", Descriptor::Configuration)?;
-    fixed(out, b"languages:", Descriptor::Languages)?;
-    fixed(out, b"vendor:", Descriptor::Vendor)?;
-    fixed(out, b"product:", Descriptor::Product)
+    fixed(out, "configuration:", Descriptor::Configuration)?;
+    fixed(out, "languages:", Descriptor::Languages)?;
+    fixed(out, "vendor:", Descriptor::Vendor)?;
+    fixed(out, "product:", Descriptor::Product)
 }

@@ -3,7 +3,6 @@
 #![tactic(auto)]
 
 mod descriptors;
-mod print;
 mod requests;
 
 use std::io;

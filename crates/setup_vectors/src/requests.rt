@@ -1,67 +1,59 @@
 // The control requests of document 01, and some that stall.
-use crate::print::{bytes, end, half, hex, put_u64, text};
+use hexprint::Hex;
 use std::io;
 use std::io::Write;
 use usb::descriptor::Descriptor;
 use usb::request::{Endpoint, Request, request_of};
 
-fn at(out: &mut impl Write, name: &[u8], endpoint: Endpoint) -> io::Result<()> {
-    text(out, name)?;
+fn pipe(endpoint: Endpoint) -> &'static str {
     match endpoint {
-        Endpoint::Control => text(out, b" control"),
-        Endpoint::BulkIn => text(out, b" bulk-in"),
-        Endpoint::BulkOut => text(out, b" bulk-out"),
+        Endpoint::Control => " control",
+        Endpoint::BulkIn => " bulk-in",
+        Endpoint::BulkOut => " bulk-out",
     }
 }
 
-fn descriptor(out: &mut impl Write, which: Descriptor, wlength: u16) -> io::Result<()> {
+fn descriptor(which: Descriptor) -> &'static str {
     match which {
-        Descriptor::Device => text(out, b" get device descriptor")?,
-        Descriptor::Configuration => text(out, b" get configuration descriptor")?,
-        Descriptor::Languages => text(out, b" get languages")?,
-        Descriptor::Vendor => text(out, b" get vendor string")?,
-        Descriptor::Product => text(out, b" get product string")?,
-        Descriptor::Serial => text(out, b" get serial string")?,
+        Descriptor::Device => " device descriptor",
+        Descriptor::Configuration => " configuration descriptor",
+        Descriptor::Languages => " languages",
+        Descriptor::Vendor => " vendor string",
+        Descriptor::Product => " product string",
+        Descriptor::Serial => " serial string",
     }
-    half(out, wlength)
-}
-
-fn numbered(out: &mut impl Write, name: &[u8], value: u8) -> io::Result<()> {
-    text(out, name)?;
-    hex(out, value)
 }
 
 fn show(out: &mut impl Write, request: Request) -> io::Result<()> {
     match request {
-        Request::SetAddress { address } => numbered(out, b" set address", address),
-        Request::SetConfiguration { value } => numbered(out, b" set configuration", value),
-        Request::GetConfiguration => text(out, b" get configuration"),
-        Request::GetDeviceStatus => text(out, b" get device status"),
-        Request::GetInterfaceStatus => text(out, b" get interface status"),
-        Request::GetEndpointStatus { endpoint } => at(out, b" get status of", endpoint),
-        Request::ClearHalt { endpoint } => at(out, b" clear halt of", endpoint),
-        Request::SetHalt { endpoint } => at(out, b" set halt of", endpoint),
-        Request::MassStorageReset => text(out, b" mass storage reset"),
-        Request::GetMaxLun => text(out, b" get max lun"),
-        Request::GetDescriptor { which, wlength } => descriptor(out, which, wlength),
-        Request::Stall => text(out, b" stall"),
+        Request::SetAddress { address } => write!(out, " set address{}", Hex(&[address])),
+        Request::SetConfiguration { value } => write!(out, " set configuration{}", Hex(&[value])),
+        Request::GetConfiguration => write!(out, " get configuration"),
+        Request::GetDeviceStatus => write!(out, " get device status"),
+        Request::GetInterfaceStatus => write!(out, " get interface status"),
+        Request::GetEndpointStatus { endpoint } => write!(out, " get status of{}", pipe(endpoint)),
+        Request::ClearHalt { endpoint } => write!(out, " clear halt of{}", pipe(endpoint)),
+        Request::SetHalt { endpoint } => write!(out, " set halt of{}", pipe(endpoint)),
+        Request::MassStorageReset => write!(out, " mass storage reset"),
+        Request::GetMaxLun => write!(out, " get max lun"),
+        Request::GetDescriptor { which, wlength } => {
+            let length = wlength.to_be_bytes();
+            write!(out, " get{}{}", descriptor(which), Hex(&length))
+        }
+        Request::Stall => write!(out, " stall"),
     }
 }
 
 // A setup's bytes, and the request that they ask for.
 fn decoded(out: &mut impl Write, s: &[u8]) -> io::Result<()> {
-    text(out, b"setup")?;
-    bytes(out, s, s.len())?;
-    text(out, b":")?;
+    write!(out, "setup{}:", Hex(s))?;
     show(out, request_of(s))?;
-    end(out)
+    writeln!(out)
 }
 
 // Eight bytes, written as a number.
 fn setup(out: &mut impl Write, number: u64) -> io::Result<()> {
-    let mut s = [0; 8];
-    put_u64(&mut s, number);
-    decoded(out, &s)
+    decoded(out, &number.to_be_bytes())
 }
 
 fn device(out: &mut impl Write) -> io::Result<()> {

@@ -1,69 +1,35 @@
-// The checks before an event, in document 01's order, and what an event's inner function answers.
+// The checks before an event, in document 01's order.
 ghost use Rattle.std.specs.Prelude.{◌≡◌};
 ghost use Rattle.state.specs.Gates.{admission};
-ghost use Rattle.machine.specs.Machine.{in_order};
+ghost use Rattle.machine.specs.Machine.{check, in_order};
 
 use machine::answer::{Answer, Refusal};
-use machine::checks::{Checks, Verdict};
-use machine::record::State;
-use units::change::Change;
+use machine::checks::Checks;
 
-// What an event answers, the state that it leaves, and what it changes in the table.
-#[derive(Clone, Copy)]
-pub struct Moved {
-    pub answer: Answer,
-    pub state: State,
-    pub change: Change,
+// A test that fails refuses the call.
+#[tactic(auto, unfolding(machine::specs::Machine::check))]
+fn require(passed: bool, why: Refusal) -> Result<(), Answer>
+    ensures { result ≡ check passed (Answer.Refused why) (Ok tt) }
+{
+    if passed {
+        Ok(())
+    } else {
+        Err(Answer::Refused { why })
+    }
 }
 
-// The same of an ask for a bulk-in packet, which never changes the table.
-#[derive(Clone, Copy)]
-pub struct Served {
-    pub answer: Answer,
-    pub state: State,
-}
-
+// The answer of the first test that fails.
 #[tactic(auto, unfolding(machine::specs::Machine::in_order, machine::specs::Machine::check))]
-pub fn admit(checks: Checks) -> Verdict
+pub fn admit(checks: Checks) -> Result<(), Answer>
     ensures { admission result ≡ admission (in_order checks) }
 {
-    let fits = checks.fits;
-    let medium = checks.medium;
-    let buffer = checks.buffer;
-    let packet = checks.packet;
-    let setup = checks.setup;
-    let configured = checks.configured;
-    let unit = checks.unit;
-    if !fits {
-        return Verdict::Refuses(Answer::Refused {
-            why: Refusal::Record,
-        });
+    require(checks.fits, Refusal::Record)?;
+    require(checks.medium, Refusal::Medium)?;
+    require(checks.buffer, Refusal::Buffer)?;
+    require(checks.packet, Refusal::Packet)?;
+    require(checks.setup, Refusal::Setup)?;
+    if !checks.configured {
+        return Err(Answer::Silent);
     }
-    if !medium {
-        return Verdict::Refuses(Answer::Refused {
-            why: Refusal::Medium,
-        });
-    }
-    if !buffer {
-        return Verdict::Refuses(Answer::Refused {
-            why: Refusal::Buffer,
-        });
-    }
-    if !packet {
-        return Verdict::Refuses(Answer::Refused {
-            why: Refusal::Packet,
-        });
-    }
-    if !setup {
-        return Verdict::Refuses(Answer::Refused {
-            why: Refusal::Setup,
-        });
-    }
-    if !configured {
-        return Verdict::Refuses(Answer::Silent);
-    }
-    if !unit {
-        return Verdict::Refuses(Answer::Refused { why: Refusal::Unit });
-    }
-    Verdict::Passes
+    require(checks.unit, Refusal::Unit)
 }

@@ -10,13 +10,7 @@ use machine::record::{Stage, State, Task};
 pub fn halt_at_end(last: bool, residue: u32, before: bool) -> bool
     ensures { result ≡ halt_at_end last residue before }
 {
-    if !last {
-        return before;
-    }
-    if 0 < residue {
-        return true;
-    }
-    before
+    last && 0 < residue || before
 }
 
 // The status is due after the last packet of data to the host.
@@ -35,30 +29,22 @@ pub fn next_in(left: u32, more: Stage) -> Stage
 pub fn cut_state(state: State) -> State
     ensures { result ≡ cut_state state }
 {
-    let link = state.link;
-    let old = link.task;
     let task = Task {
         stage: Stage::StatusDue {
             status: Status::PhaseError,
         },
-        lun: old.lun,
-        tag: old.tag,
-        announced: old.announced,
-        residue: old.residue,
+        ..state.link.task
     };
-    moved(state, link.haltin, true, task)
+    moved(state, state.link.haltin, true, task)
 }
 
 // After the status a wrapper is due; a phase error locks the device.
 pub fn after_status(status: Status, state: State) -> State
     ensures { result ≡ after_status status state }
 {
-    let link = state.link;
-    let task = no_task();
-    let next = moved(state, link.haltin, link.haltout, task);
+    let next = moved(state, state.link.haltin, state.link.haltout, no_task());
     match status {
-        Status::Passed => next,
-        Status::Failed => next,
+        Status::Passed | Status::Failed => next,
         Status::PhaseError => locked_state(next),
     }
 }

@@ -1,4 +1,4 @@
-// The states that events leave: each struct is built here and nowhere else.
+// The states that events leave, and the block being gathered where none is.
 ghost use Rattle.std.specs.Prelude.{◌≡◌};
 ghost use Rattle.wire.specs.Slices.{zeros};
 ghost use Rattle.machine.specs.Record.{no_task, moved, with_halts, with_address, dropped_state};
@@ -22,52 +22,37 @@ pub fn no_task() -> Task
 pub fn moved(state: State, haltin: bool, haltout: bool, task: Task) -> State
     ensures { result ≡ moved state haltin haltout task }
 {
-    let link = state.link;
-    State {
-        address: state.address,
-        configured: state.configured,
-        link: Link {
-            haltin,
-            haltout,
-            locked: link.locked,
-            task,
-        },
-    }
+    let link = Link {
+        haltin,
+        haltout,
+        task,
+        ..state.link
+    };
+    State { link, ..state }
 }
 
 pub fn with_halts(state: State, haltin: bool, haltout: bool, locked: bool) -> State
     ensures { result ≡ with_halts state haltin haltout locked }
 {
-    let link = state.link;
-    let task = link.task;
-    State {
-        address: state.address,
-        configured: state.configured,
-        link: Link {
-            haltin,
-            haltout,
-            locked,
-            task,
-        },
-    }
+    let link = Link {
+        haltin,
+        haltout,
+        locked,
+        ..state.link
+    };
+    State { link, ..state }
 }
 
 pub fn with_address(state: State, address: u8) -> State
     ensures { result ≡ with_address state address }
 {
-    let link = state.link;
-    State {
-        address,
-        configured: state.configured,
-        link,
-    }
+    State { address, ..state }
 }
 
 // "Dropping the command": ready for a wrapper, lock ended. The caller wipes the part block and clears the senses.
 pub fn dropped_state(address: u8, configured: bool, haltin: bool, haltout: bool) -> State
     ensures { result ≡ dropped_state address configured haltin haltout }
 {
-    let task = no_task();
     State {
         address,
         configured,
@@ -75,7 +60,7 @@ pub fn dropped_state(address: u8, configured: bool, haltin: bool, haltout: bool)
             haltin,
             haltout,
             locked: false,
-            task,
+            task: no_task(),
         },
     }
 }

@@ -1,5 +1,4 @@
-// The table of logical units by value: one unit, a table of up to four, and what an event changes in it. Each function is
-// one equation with the specification machine's definitions.
+// The lent table of logical units: whether it fits, what one unit is, and what an event changes in it.
 #![tactic(auto)]
 
 pub mod change;

@@ -1,6 +1,7 @@
 // One logical unit: its size and its switch, and the unit with another sense or switch.
 ghost use Rattle.std.specs.Prelude.{◌≡◌};
 ghost use Rattle.machine.specs.Units.{size_fits, switch_fits, with_sense, with_switch, is_protected, unused};
+ghost use Rattle.units.specs.Lent.{no_unit};
 
 use machine::record::{LogicalUnit, MOST_BLOCKS};
 use scsi::sense::Sense;
@@ -8,10 +9,7 @@ use scsi::sense::Sense;
 pub fn size_fits(blocks: u32) -> bool
     ensures { result ≡ size_fits blocks }
 {
-    if blocks < 1 {
-        return false;
-    }
-    blocks <= MOST_BLOCKS
+    1 <= blocks && blocks <= MOST_BLOCKS
 }
 
 // Open or closed.
@@ -21,28 +19,32 @@ pub fn switch_fits(switch: u8) -> bool
     switch <= 1
 }
 
+// What stands for a unit beyond the table: it has no blocks.
+pub fn no_unit() -> LogicalUnit
+    ensures { result ≡ no_unit }
+{
+    LogicalUnit {
+        first: 0,
+        blocks: 0,
+        sense: Sense::NONE,
+        switch: 0,
+    }
+}
+
 // Another sense; the unit's part of the medium and its switch stay.
 pub fn with_sense(unit: LogicalUnit, sense: Sense) -> LogicalUnit
     ensures { result ≡ with_sense unit sense }
 {
-    LogicalUnit {
-        first: unit.first,
-        blocks: unit.blocks,
-        sense,
-        switch: unit.switch,
-    }
+    LogicalUnit { sense, ..unit }
 }
 
 // The write switch in another position; all else of the unit stays.
 pub fn with_switch(unit: LogicalUnit, position: u8) -> LogicalUnit
     ensures { result ≡ with_switch unit position }
 {
-    let sense = unit.sense;
     LogicalUnit {
-        first: unit.first,
-        blocks: unit.blocks,
-        sense,
         switch: position,
+        ..unit
     }
 }
 

@@ -3,11 +3,11 @@ use Prim.Native.Nat.{ℕ, ◌≤◌}
 use mathlib.Core.Path.{◌≡◌, subst}
 use mathlib.Core.List.{List}
 use borrow.Author.Tests.{leb-true}
+use Rattle.std.specs.Prelude.{Option, None, Some}
+use Rattle.std.proofs.Common.{rules}
 use Rattle.wire.proofs.Cases.{both, by-if, look-all}
 use Rattle.usb.specs.declared.descriptor.Descriptor.{Descriptor}
 use Rattle.usb.specs.declared.request.Endpoint.{Endpoint}
-use Rattle.usb.specs.declared.request.Target.{Target}
-use Rattle.usb.specs.declared.request.Target.TheVariants.{Missing, Found}
 use Rattle.usb.specs.declared.request.Request.{Request}
 use Rattle.usb.specs.declared.request.Request.TheVariants.{SetAddress, SetConfiguration, GetConfiguration, GetDeviceStatus, GetInterfaceStatus, GetEndpointStatus, ClearHalt, SetHalt, MassStorageReset, GetMaxLun, GetDescriptor, Stall}
 use Rattle.usb.specs.Request.{Fields, is_no_data, set_address, set_configuration, bare, target_of, aimed, at_endpoint, served, descriptors, get_descriptor, requests, decided, request_of}
@@ -41,9 +41,9 @@ bares : (wanted : ℕ) (r : Request) → Low r → AllLow (bare wanted r)
 unfolding bare
 bares wanted r h v i l = by-if Low _ r Stall (λ _. h) (λ _. tt)
 
-aimed-low : (f : Endpoint → Request) → ((e : Endpoint) → Low (f e)) → (t : Target) → Low (aimed f t)
-aimed-low f h Missing = tt
-aimed-low f h (Found e) = h e
+aimed-low : (f : Endpoint → Request) → ((e : Endpoint) → Low (f e)) → (t : Option Endpoint) → Low (aimed f t)
+aimed-low f h None = tt
+aimed-low f h (Some e) = h e
 
 aims : (wanted : ℕ) (f : Endpoint → Request) → ((e : Endpoint) → Low (f e)) → AllLow (at_endpoint wanted f)
 aims wanted f h v i l = aimed-low f h (target_of wanted v i l)
@@ -55,45 +55,12 @@ serves d w i l = by-if Low _ _ _ (λ _. tt) (λ _. tt)
 describes : AllLow get_descriptor
 unfolding get_descriptor descriptors
 describes v i l =
-    let s = serves in
-    look-all (λ (f : ℕ → ℕ → Request). Low (f i l)) _ v (λ _ _. Stall)
-    (s _ _ i l, (s _ _ i l, (s _ _ i l, (s _ _ i l, (s _ _ i l, (s _ _ i l, tt)))))) tt
+    look-all (λ (f : ℕ → ℕ → Request). Low (f i l)) _ v (λ _ _. Stall) (search (rules, serves)) tt
 
 decides : (key : ℕ) → AllLow (decided key)
 unfolding decided requests
 decides key =
-    look-all AllLow _ key (λ _ _ _. Stall) (
-      addresses,
-      (
-        configurations,
-        (
-          bares _ _ tt,
-          (
-            bares _ _ tt,
-            (
-              bares _ _ tt,
-              (
-                aims 2 GetEndpointStatus (λ _. tt),
-                (
-                  aims 0 ClearHalt (λ _. tt),
-                  (
-                    aims 0 SetHalt (λ _. tt),
-                    (
-                      bares _ _ tt,
-                      (
-                        bares _ _ tt,
-                        (describes, tt),
-                      ),
-                    ),
-                  ),
-                ),
-              ),
-            ),
-          ),
-        ),
-      ),
-    )
-    (λ _ _ _. tt)
+    look-all AllLow requests key (λ _ _ _. Stall) (search (rules, addresses, configurations, bares, aims, describes)) (λ _ _ _. tt)
 
 pub address-low : (q : List ℕ) (a : ℕ) → request_of q ≡ SetAddress a → a ≤ 0x7F
 unfolding request_of

@@ -1,6 +1,6 @@
 -- Control requests (document 01, "Control requests"; USB 2.0, 9.3 and 9.4; BOT 3): type and request, then value, index and length.
 -- Whether the device must be configured is not decided here.
-use Rattle.std.specs.Prelude.{ℕ, Bool, List, [], ◌∷◌, eqb, leb, length}
+use Rattle.std.specs.Prelude.{ℕ, Bool, List, [], ◌∷◌, Option, None, Some, eqb, leb, length}
 use Rattle.wire.specs.Choice.{when◌then◌else◌, ◌and◌, Row, row, look}
 use Rattle.wire.specs.Slices.{bytes_at}
 use Rattle.wire.specs.Numbers.{little, big}
@@ -8,8 +8,6 @@ use Rattle.usb.specs.declared.descriptor.Descriptor.{Descriptor}
 use Rattle.usb.specs.declared.descriptor.Descriptor.TheVariants as descriptor
 use Rattle.usb.specs.declared.request.Endpoint.{Endpoint}
 use Rattle.usb.specs.declared.request.Endpoint.TheVariants.{Control, BulkIn, BulkOut}
-use Rattle.usb.specs.declared.request.Target.{Target}
-use Rattle.usb.specs.declared.request.Target.TheVariants.{Missing, Found}
 use Rattle.usb.specs.declared.request.Request.{Request}
 use Rattle.usb.specs.declared.request.Request.TheVariants.{SetAddress, SetConfiguration, GetConfiguration, GetDeviceStatus, GetInterfaceStatus, GetEndpointStatus, ClearHalt, SetHalt, MassStorageReset, GetMaxLun, GetDescriptor, Stall}
 
@@ -33,23 +31,23 @@ unfoldable pub bare : ℕ → Request → Fields
 bare wanted r v i l = when eqb v 0 and eqb i 0 and eqb l wanted then r else Stall
 
 -- "for 81 and 02"; "for 00 and 80"
-unfoldable pub endpoints : List (Row Target)
+unfoldable pub endpoints : List (Row (Option Endpoint))
 endpoints =
-    row 0x0000 (Found Control)
-    ∷ row 0x0080 (Found Control)
-    ∷ row 0x0081 (Found BulkIn)
-    ∷ row 0x0002 (Found BulkOut)
+    row 0x0000 (Some Control)
+    ∷ row 0x0080 (Some Control)
+    ∷ row 0x0081 (Some BulkIn)
+    ∷ row 0x0002 (Some BulkOut)
     ∷ []
 
-unfoldable pub endpoint_of : ℕ → Target
-endpoint_of index = look endpoints index Missing
+unfoldable pub endpoint_of : ℕ → Option Endpoint
+endpoint_of index = look endpoints index None
 
-unfoldable pub target_of : ℕ → ℕ → ℕ → ℕ → Target
-target_of wanted v i l = when eqb v 0 and eqb l wanted then endpoint_of i else Missing
+unfoldable pub target_of : ℕ → ℕ → ℕ → ℕ → Option Endpoint
+target_of wanted v i l = when eqb v 0 and eqb l wanted then endpoint_of i else None
 
-abbrev pub aimed : (Endpoint → Request) → Target → Request
-aimed f Missing = Stall
-aimed f (Found e) = f e
+abbrev pub aimed : (Endpoint → Request) → Option Endpoint → Request
+aimed f None = Stall
+aimed f (Some e) = f e
 
 -- value 0, index an endpoint, and this length
 abbrev pub at_endpoint : ℕ → (Endpoint → Request) → Fields

@@ -9,7 +9,7 @@ use wire::packet::{Packet, packet_of};
 use wire::texts::{PRODUCT, VENDOR};
 
 // The numbers given at making; they never change.
-#[derive(Clone, Copy)]
+#[derive(Clone, Copy, Debug, PartialEq, Eq)]
 pub struct Identity {
     pub number: u64,
     pub vendor: u16,
@@ -17,7 +17,7 @@ pub struct Identity {
     pub release: u16,
 }
 
-#[derive(Clone, Copy)]
+#[derive(Clone, Copy, Debug, PartialEq, Eq)]
 pub enum Descriptor {
     Device,
     Configuration,
@@ -27,6 +27,7 @@ pub enum Descriptor {
     Serial,
 }
 
+#[tactic(auto, unfolding(crate::specs::Descriptor::descriptor_packet))]
 pub fn descriptor_bytes(which: Descriptor, identity: Identity) -> Packet
     ensures { result ≡ descriptor_packet which identity }
 {
@@ -34,14 +35,8 @@ pub fn descriptor_bytes(which: Descriptor, identity: Identity) -> Packet
         Descriptor::Device => packet_of(&device_descriptor(identity)),
         Descriptor::Configuration => packet_of(&configuration_descriptor()),
         Descriptor::Languages => packet_of(&[0x04, 0x03, 0x09, 0x04]),
-        Descriptor::Vendor => {
-            let text = VENDOR;
-            string_descriptor(&text)
-        }
-        Descriptor::Product => {
-            let text = PRODUCT;
-            string_descriptor(&text)
-        }
+        Descriptor::Vendor => string_descriptor(&VENDOR),
+        Descriptor::Product => string_descriptor(&PRODUCT),
         Descriptor::Serial => string_descriptor(&digits(identity.number)),
     }
 }
@@ -59,6 +54,7 @@ fn device_descriptor(identity: Identity) -> [u8; 18]
 }
 
 // The configuration, its interface and both bulk endpoints.
+#[tactic(auto, unfolding(crate::specs::Descriptor::configuration_descriptor))]
 fn configuration_descriptor() -> [u8; 32]
     ensures { result ≡ configuration_descriptor }
 {
@@ -74,17 +70,12 @@ fn string_descriptor(text: &[u8]) -> Packet
     requires { length text.now ≤ 31 }
     ensures { result ≡ packet_of (string_descriptor text.now) }
 {
-    let n = text.len();
+    let len = 2 + 2 * text.len();
     let mut bytes = [0; 64];
-    bytes[0] = (2 + 2 * n) as u8;
+    bytes[0] = len as u8;
     bytes[1] = 0x03;
-    let mut i = 0;
-    while i < n {
-        bytes[2 + 2 * i] = text[i];
-        i += 1;
+    for (i, &c) in text.iter().enumerate() {
+        bytes[2 + 2 * i] = c;
     }
-    Packet {
-        bytes,
-        len: 2 + 2 * n,
-    }
+    Packet { bytes, len }
 }

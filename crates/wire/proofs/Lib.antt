@@ -5,3 +5,5 @@ pub mod Positional
 pub mod Masks
 pub mod Packets
 pub mod Same
+pub mod Library
+pub mod Bytes

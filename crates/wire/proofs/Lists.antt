@@ -4,32 +4,20 @@ use mathlib.Core.Path.{◌≡◌, refl, sym, ap, ap₂, ◌∙◌}
 use mathlib.Core.Bool.{true, false}
 use mathlib.Core.List.{List, [], ◌∷◌, ◌++◌, append-nil, append_assoc, reverse, reverse-cons}
 use native.Mathlib.Omega.{arith}
-use native.Mathlib.Numerals.{add-one, one-add}
-use native.Mathlib.Nat.{add_assoc, zero-add, add-zero, suc-add}
-use lib.Dec.{eqb}
-use lib.ListN.{length, take, drop, get_or, length-append, length-drop, take-append-drop, drop_of_length-le, get_or-eq_default}
+use native.Mathlib.Numerals.{add-one}
+use native.Mathlib.Nat.{add_assoc, add-zero}
+use lib.ListN.{length, take, drop, get_or, length-append, length-drop, take-append-drop, drop_of_length-le}
 use lib.Seq.{drop-cons, drop-drop, take_all, take_at, length-take-le, drop-append-add}
 use borrow.Author.Tests.{le-leb, lt-leb, leb-true, eqb-true}
-use Rattle.wire.specs.Choice.{when◌then◌else◌, ◌and◌}
-use Rattle.wire.specs.Slices.{byte_at, bytes_at, zeros, Every, starts_with, fits, placed}
-use Rattle.wire.proofs.Cases.{and_false, both, by-if}
+use Rattle.wire.specs.Choice.{when◌then◌else◌}
+use Rattle.wire.specs.Slices.{byte_at, bytes_at, Every, starts_with, fits, placed}
+use Rattle.wire.proofs.Cases.{both, by-if}
 
 -- a part from a on, as the borrow checker states it
 pub tail_is : (a : ℕ) (s : List ℕ) → take (length s - a) (drop a s) ≡ drop a s
 tail_is a s = take_all (length s - a) (drop a s) (simp length-drop (omega arith))
 
 -- ---- bytes in front
-
-pub starts_step : (f s : List ℕ) (i : ℕ) → i < length f → i < length s
-    → starts_with (drop i f) (drop i s) ≡ (eqb (get_or s i 0) (get_or f i 0) and starts_with (drop (i + 1) f) (drop (i + 1) s))
-unfolding starts_with
-starts_step f s i hf hs = rw (drop-cons f i 0 hf, drop-cons s i 0 hs, add-one i)
-
-pub starts_short : (f s : List ℕ) → length s < length f → starts_with f s ≡ false
-unfolding starts_with
-starts_short [] s h = absurd (omega arith)
-starts_short (x ∷ f) [] h = refl
-starts_short (x ∷ f) (y ∷ s) h = simp (starts_short f s (omega arith)) (and_false (eqb y x))
 
 pub starts_take : (f s : List ℕ) → starts_with f s ≡ true → take (length f) s ≡ f
 unfolding starts_with
@@ -112,17 +100,6 @@ pub bytes_tail : (n at : ℕ) (s : List ℕ) → at + n ≤ length s → bytes_a
 unfolding bytes_at
 bytes_tail zero at s h = refl
 bytes_tail (suc n) at s h = rw (drop-cons s at 0 (omega arith), ← add-one at) (ap (λ (l : List ℕ). get_or s at 0 ∷ l) (bytes_tail n (at + 1) s (omega arith)))
-
-pub bytes_past : (n at : ℕ) (s : List ℕ) → length s ≤ at → bytes_at n at s ≡ zeros n
-unfolding bytes_at zeros
-bytes_past zero at s h = refl
-bytes_past (suc n) at s h = ap₂ ◌∷◌ (get_or-eq_default s 0 h) (bytes_past n (at + 1) s (omega arith))
-
-pub bytes_join : (n m at : ℕ) (s : List ℕ) → bytes_at (n + m) at s ≡ bytes_at n at s ++ bytes_at m (at + n) s
-unfolding bytes_at
-bytes_join zero m at s = rw (zero-add m, add-zero at)
-bytes_join (suc n) m at s =
-    rw (suc-add n m) (ap (λ (l : List ℕ). byte_at s at ∷ l) (bytes_join n m (at + 1) s ∙ ap (λ (k : ℕ). bytes_at n (at + 1) s ++ bytes_at m k s) (add_assoc at 1 n ∙ ap (λ (k : ℕ). at + k) (one-add n))))
 
 -- lists that have the same bytes there
 pub bytes_same : (n at : ℕ) (s t : List ℕ) → ((i : ℕ) → i < at + n → byte_at s i ≡ byte_at t i) → bytes_at n at s ≡ bytes_at n at t

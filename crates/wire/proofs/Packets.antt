@@ -1,13 +1,14 @@
 -- A packet holds its bytes in front, zeros behind. Assumes nothing.
 use Prim.Native.Nat.{ℕ, zero, suc, ◌+◌, ◌-◌, ◌≤◌}
 use mathlib.Core.Path.{◌≡◌, refl, sym, ap, ◌∙◌}
-use mathlib.Core.List.{List, ◌++◌}
+use mathlib.Core.List.{List, [], ◌++◌}
 use native.Mathlib.Omega.{arith}
 use native.Mathlib.Nat.{sub-zero, zero-sub, suc-sub-suc}
 use lib.ListN.{length, take, drop, length-replicate, length-append}
 use lib.Seq.{take_at, take-append-le}
-use Rattle.wire.specs.Slices.{zeros, fits}
-use Rattle.wire.specs.Packet.{packet_of}
+use borrow.Author.Tests.{le-leb}
+use Rattle.wire.specs.Slices.{zeros, fits, part}
+use Rattle.wire.specs.Packet.{packet_of, bytes_of}
 use Rattle.wire.specs.declared.packet.Packet.{Packet}
 use Rattle.wire.proofs.Cases.{if-true}
 use Rattle.wire.proofs.Lists.{fits_yes, placed_yes}
@@ -33,19 +34,27 @@ packet_is s h =
       len = if-true (fits (zeros 64) 0 s) (length s) 0 (fits_yes (zeros 64) 0 s room) i;
     }
 
+-- as many bytes as lie in front, as a slice has them
+part-front : (n : ℕ) (s : List ℕ) → n ≤ length s → part s 0 n ≡ take n s
+unfolding part
+part-front n s h = if-true _ (take n s) [] (le-leb (0 + n) (length s) (omega arith))
+
 -- what a packet holds
 pub record Held (k : Packet) (s : List ℕ) : Type 0 where
   pub room : k.len ≤ length k.bytes
   pub count : k.len ≡ length s
   pub is : take k.len k.bytes ≡ s
+  pub slice : bytes_of k ≡ s
   pub front : (n : ℕ) → n ≤ length s → take n k.bytes ≡ take n s
 
 pub held : (k : Packet) (s : List ℕ) → k ≡ packet_of s → length s ≤ 64 → Held k s
 held k s e h =
     let f = e ∙ packet_is s h in
+    let all = take_at s (zeros (64 - length s)) (length s) refl in
     record {
       room = rw f (simp length-append (omega arith));
       count = rw f;
-      is = rw f (take_at s (zeros (64 - length s)) (length s) refl);
+      is = rw f all;
+      slice = rw f (part-front (length s) _ (simp length-append (omega arith)) ∙ all);
       front = λ n l. rw f (take-append-le n s (zeros (64 - length s)) l);
     }

@@ -7,10 +7,10 @@ use native.Mathlib.Nat.{pow-zero, pow-suc, one-le-pow, mod-one, mod-lt, mod-eq_o
 use lib.Arith.{mod-mul}
 use lib.ListN.{length, drop, length-reverse, length-map, drop_of_length-le}
 use lib.Seq.{drop-append-le}
-use Rattle.wire.specs.Slices.{Every, Below, bytes_at}
+use Rattle.wire.specs.Slices.{Every, Below}
 use Rattle.wire.specs.Numbers.{low, value, little_bytes, little, big, decimal, decimal_value}
 use Rattle.wire.specs.Claims.{WrittenIsRead, ReadIsWritten, ByteOrder, Digits}
-use Rattle.wire.proofs.Lists.{every-reverse, bytes_join, length-bytes}
+use Rattle.wire.proofs.Lists.{every-reverse}
 
 pub length-low : (base n x : ℕ) → length (low base n x) ≡ n
 unfolding low
@@ -53,9 +53,8 @@ byte_order = record {
       ∙ reverse-reverse s;
 }
 
--- ---- a field in two parts
-
-value_join : (base : ℕ) (s t : List ℕ) → value base (s ++ t) ≡ value base s + base ^ length s * value base t
+-- what two runs of digits stand for, one behind the other
+pub value_join : (base : ℕ) (s t : List ℕ) → value base (s ++ t) ≡ value base s + base ^ length s * value base t
 unfolding value
 value_join base [] t = sym (zero-add _ ∙ ap (λ (k : ℕ). k * value base t) (pow-zero base) ∙ one-mul (value base t))
 value_join base (d ∷ s) t =
@@ -63,19 +62,6 @@ value_join base (d ∷ s) t =
     ∙ ap (λ (v : ℕ). d + v) (mul-add base (value base s) (base ^ length s * value base t))
     ∙ sym (add_assoc d (base * value base s) (base * (base ^ length s * value base t)))
     ∙ ap (λ (v : ℕ). d + base * value base s + v) (sym (mul_assoc base (base ^ length s) (value base t)) ∙ ap (λ (k : ℕ). k * value base t) (sym (pow-succ' base (length s))))
-
-pub little_join : (n m at : ℕ) (s : List ℕ) → little (bytes_at (n + m) at s) ≡ little (bytes_at n at s) + 256 ^ n * little (bytes_at m (at + n) s)
-little_join n m at s =
-    ap little (bytes_join n m at s)
-    ∙ value_join 256 (bytes_at n at s) (bytes_at m (at + n) s)
-    ∙ ap (λ (k : ℕ). little (bytes_at n at s) + 256 ^ k * little (bytes_at m (at + n) s)) (length-bytes n at s)
-
-pub big_join : (n m at : ℕ) (s : List ℕ) → big (bytes_at (n + m) at s) ≡ big (bytes_at m (at + n) s) + 256 ^ m * big (bytes_at n at s)
-big_join n m at s =
-    ap big (bytes_join n m at s)
-    ∙ ap little (reverse-append (bytes_at n at s) (bytes_at m (at + n) s))
-    ∙ value_join 256 (reverse (bytes_at m (at + n) s)) (reverse (bytes_at n at s))
-    ∙ ap (λ (k : ℕ). big (bytes_at m (at + n) s) + 256 ^ k * big (bytes_at n at s)) (length-reverse (bytes_at m (at + n) s) ∙ length-bytes m (at + n) s)
 
 -- ---- decimal digits
 

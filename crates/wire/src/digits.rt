@@ -7,18 +7,16 @@ ghost use Rattle.wire.specs.Numbers.{decimal, decimal_value};
 pub fn digits(n: u64) -> [u8; 12]
     ensures { result ≡ decimal 12 n }
 {
-    let mut out = [48; 12];
+    let mut out = [b'0'; 12];
     let mut rest = n;
-    let mut i = 12;
-    while 0 < i {
+    for i in (0..6).rev() {
         let next = rest / 100;
         let pair = (rest - 100 * next) as u32;
         let tens = tens_of(pair);
         let ones = pair - 10 * tens;
-        out[i - 1] = (48 + ones) as u8;
-        out[i - 2] = (48 + tens) as u8;
+        out[2 * i + 1] = b'0' + ones as u8;
+        out[2 * i] = b'0' + tens as u8;
         rest = next;
-        i -= 2;
     }
     out
 }
@@ -35,10 +33,7 @@ fn tens_of(pair: u32) -> u32
 fn digit_value(c: u8) -> u64
     ensures { result ≡ c - 48 }
 {
-    if c < 48 {
-        return 0;
-    }
-    (c - 48) as u64
+    u64::from(c.saturating_sub(b'0'))
 }
 
 // The number that the first twelve bytes stand for as digits. Whether they are digits is not asked: those of the number are
@@ -47,13 +42,8 @@ pub fn number(s: &[u8]) -> u64
     ensures { result ≡ decimal_value (take 12 s.now) }
 {
     let mut sum = 0;
-    let mut i = 0;
-    while i < 12 {
-        if s.len() <= i {
-            return sum;
-        }
-        sum = 10 * sum + digit_value(s[i]);
-        i += 1;
+    for c in s.get(..12).unwrap_or(s) {
+        sum = 10 * sum + digit_value(*c);
     }
     sum
 }

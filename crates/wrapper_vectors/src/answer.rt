@@ -1,21 +1,20 @@
 // How the codec's functions end, in words.
-use crate::print::{bytes, end, text};
-use bot::answer::Answer;
+use bot::refused::Refused;
+use hexprint::Hex;
 use std::io;
 use std::io::Write;
 
-// A whole line: a name, and the bytes that were written or the answer.
+// A whole line: a name, and the bytes that were written or the refusal.
 pub(crate) fn written(
     out: &mut impl Write,
-    name: &[u8],
-    answer: Answer,
+    name: &str,
+    answer: Result<usize, Refused>,
     buffer: &[u8],
 ) -> io::Result<()> {
-    text(out, name)?;
+    write!(out, "{name}")?;
     match answer {
-        Answer::Written { count } => bytes(out, buffer, count)?,
-        Answer::Read => text(out, b" read")?,
-        Answer::Refused => text(out, b" refused")?,
+        Ok(count) => write!(out, "{}", Hex(&buffer[..count.min(buffer.len())]))?,
+        Err(refused) => write!(out, " {refused}")?,
     }
-    end(out)
+    writeln!(out)
 }

@@ -1,46 +1,34 @@
 // The command wrapper of source document 002's listing: Read Capacity, tag 826A6008.
 use crate::answer::written;
-use crate::print::{bytes, end, hex, text, word};
-use bot::answer::Answer;
 use bot::cbw::{Cbw, Header, read_cbw, write_cbw};
+use hexprint::Hex;
 use std::io;
 use std::io::Write;
 
-fn direction(out: &mut impl Write, inward: bool) -> io::Result<()> {
-    if inward {
-        text(out, b" in")
-    } else {
-        text(out, b" out")
-    }
+fn direction(inward: bool) -> &'static str {
+    if inward { " in" } else { " out" }
 }
 
 fn fields(out: &mut impl Write, cbw: Cbw) -> io::Result<()> {
-    let header = cbw.header;
-    let block = cbw.block;
-    text(out, b" tag")?;
-    word(out, header.tag)?;
-    text(out, b" announced")?;
-    word(out, header.announced)?;
-    direction(out, header.inward)?;
-    text(out, b" unit")?;
-    hex(out, header.lun)?;
-    text(out, b" length")?;
-    hex(out, header.size)?;
-    text(out, b" block")?;
-    bytes(out, &block, 16)
+    write!(
+        out,
+        " tag{} announced{}{} unit{} length{} block{}",
+        Hex(&cbw.header.tag.to_be_bytes()),
+        Hex(&cbw.header.announced.to_be_bytes()),
+        direction(cbw.header.inward),
+        Hex(&[cbw.header.lun]),
+        Hex(&[cbw.header.size]),
+        Hex(&cbw.block)
+    )
 }
 
-fn read(out: &mut impl Write, name: &[u8], s: &[u8]) -> io::Result<()> {
-    let found = read_cbw(s);
-    let answer = found.answer;
-    let cbw = found.cbw;
-    text(out, name)?;
-    match answer {
-        Answer::Written { count: _ } => text(out, b" written")?,
-        Answer::Read => fields(out, cbw)?,
-        Answer::Refused => text(out, b" refused")?,
+fn read(out: &mut impl Write, name: &str, s: &[u8]) -> io::Result<()> {
+    write!(out, "{name}")?;
+    match read_cbw(s) {
+        Ok(cbw) => fields(out, cbw)?,
+        Err(refused) => write!(out, " {refused}")?,
     }
-    end(out)
+    writeln!(out)
 }
 
 fn read_capacity(lun: u8) -> Cbw {
@@ -61,15 +49,15 @@ fn read_capacity(lun: u8) -> Cbw {
 fn whole(out: &mut impl Write) -> io::Result<()> {
     let mut buffer = [0; 31];
     let answer = write_cbw(read_capacity(0), &mut buffer);
-    written(out, b"cbw written:", answer, &buffer)?;
-    read(out, b"cbw read:", &buffer)
+    written(out, "cbw written:", answer, &buffer)?;
+    read(out, "cbw read:", &buffer)
 }
 
 // The same wrapper without its last byte.
 fn cut(out: &mut impl Write) -> io::Result<()> {
     read(
         out,
-        b"cbw of 30 bytes:",
+        "cbw of 30 bytes:",
         b"USBC\x08\x60\x6A\x82\x08\0\0\0\x80\0\x0A\x25\0\0\0\0\0\0\0\0\0\0\0\0\0\0",
     )
 }
@@ -77,13 +65,13 @@ fn cut(out: &mut impl Write) -> io::Result<()> {
 fn short_buffer(out: &mut impl Write) -> io::Result<()> {
     let mut buffer = [0; 30];
     let answer = write_cbw(read_capacity(0), &mut buffer);
-    written(out, b"cbw to a buffer of 30 bytes:", answer, &buffer)
+    written(out, "cbw to a buffer of 30 bytes:", answer, &buffer)
 }
 
 fn unit_16(out: &mut impl Write) -> io::Result<()> {
     let mut buffer = [0; 31];
     let answer = write_cbw(read_capacity(16), &mut buffer);
-    written(out, b"cbw of unit 16:", answer, &buffer)
+    written(out, "cbw of unit 16:", answer, &buffer)
 }
 
 pub(crate) fn run(out: &mut impl Write) -> io::Result<()> {

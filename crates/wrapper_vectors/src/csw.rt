@@ -1,39 +1,35 @@
 // The status wrapper of the bench sheet: tag 826A6008 (source document 002), residue 0, passed.
 use crate::answer::written;
-use crate::print::{end, text, word};
-use bot::answer::Answer;
 use bot::csw::{Csw, Status, read_csw, write_csw};
+use hexprint::Hex;
 use std::io;
 use std::io::Write;
 
-fn status_word(out: &mut impl Write, status: Status) -> io::Result<()> {
+fn status_word(status: Status) -> &'static str {
     match status {
-        Status::Passed => text(out, b" passed"),
-        Status::Failed => text(out, b" failed"),
-        Status::PhaseError => text(out, b" phase error"),
+        Status::Passed => " passed",
+        Status::Failed => " failed",
+        Status::PhaseError => " phase error",
     }
 }
 
 fn fields(out: &mut impl Write, csw: Csw) -> io::Result<()> {
-    let status = csw.status;
-    text(out, b" tag")?;
-    word(out, csw.tag)?;
-    text(out, b" residue")?;
-    word(out, csw.residue)?;
-    status_word(out, status)
+    write!(
+        out,
+        " tag{} residue{}{}",
+        Hex(&csw.tag.to_be_bytes()),
+        Hex(&csw.residue.to_be_bytes()),
+        status_word(csw.status)
+    )
 }
 
-fn read(out: &mut impl Write, name: &[u8], s: &[u8]) -> io::Result<()> {
-    let found = read_csw(s);
-    let answer = found.answer;
-    let csw = found.csw;
-    text(out, name)?;
-    match answer {
-        Answer::Written { count: _ } => text(out, b" written")?,
-        Answer::Read => fields(out, csw)?,
-        Answer::Refused => text(out, b" refused")?,
+fn read(out: &mut impl Write, name: &str, s: &[u8]) -> io::Result<()> {
+    write!(out, "{name}")?;
+    match read_csw(s) {
+        Ok(csw) => fields(out, csw)?,
+        Err(refused) => write!(out, " {refused}")?,
     }
-    end(out)
+    writeln!(out)
 }
 
 pub(crate) fn run(out: &mut impl Write) -> io::Result<()> {
@@ -44,8 +40,8 @@ pub(crate) fn run(out: &mut impl Write) -> io::Result<()> {
     };
     let mut buffer = [0; 13];
     let answer = write_csw(csw, &mut buffer);
-    written(out, b"csw written:", answer, &buffer)?;
-    read(out, b"csw read:", &buffer)?;
+    written(out, "csw written:", answer, &buffer)?;
+    read(out, "csw read:", &buffer)?;
     buffer[12] = 3;
-    read(out, b"csw of status 3:", &buffer)
+    read(out, "csw of status 3:", &buffer)
 }

@@ -5,7 +5,6 @@
 mod answer;
 mod cbw;
 mod csw;
-mod print;
 mod thirteen;
 
 use std::io;

@@ -3,10 +3,10 @@ use Rattle.wire.specs.Choice.{when◌then◌else◌}
 use Rattle.machine.specs.Begin.{host_of}
 use Rattle.begin.proofs.command.host_of.Goals as goal
 
-pub returns-then-inward : goal.returns-then-inward
+pub returns-then-header : goal.returns-then-header
 unfolding host_of when◌then◌else◌
-returns-then-inward c = simp c.if-inward.true
+returns-then-header c = simp c.if-header.true
 
-pub returns : goal.returns
+pub returns-else-header : goal.returns-else-header
 unfolding host_of when◌then◌else◌
-returns c = simp c.if-inward.false
+returns-else-header c = simp c.if-header.false

@@ -5,4 +5,4 @@ use Rattle.bulk.proofs.ask.handed_state.Goals as goal
 
 pub returns : goal.returns
 unfolding handed_state
-returns c = simp (sym c.halt_at_end-haltin.ensures, sym c.next_in-stage.ensures) c.moved.ensures
+returns c = simp (sym c.halt_at_end-haltin.ensures, sym c.next_in.ensures) c.moved.ensures

@@ -1,7 +1,6 @@
 -- `packet_in` meets its contract. Assumes nothing.
-use mathlib.Core.Path.{refl, sym, ap, ◌∙◌}
+use mathlib.Core.Path.{refl, sym, ◌∙◌}
 use native.Mathlib.Nat.{add-sub_cancel_left}
-use lib.ListN.{length}
 use Rattle.wire.proofs.Packets.{held}
 use Rattle.scsi.specs.Reply.{reply_packet}
 use Rattle.scsi.proofs.Replies.{reply-short}
@@ -14,23 +13,15 @@ use Rattle.bulk.proofs.inward.packet_in.Goals as goal
 pub ask-requires : goal.ask-requires
 ask-requires c = askable _ _ _ c.requires
 
-pub hand_out-count-requires : goal.hand_out-count-requires
-hand_out-count-requires c =
-    let w = c.requires in
+pub hand_out-requires : goal.hand_out-requires
+hand_out-requires c =
     let f = found _ _ _ c.requires _ _ _ _ c.ask.ensures c.in-Packet.is c.in-Medium.is in
-    simp c.unit_at-unit.ensures (in-medium _ _ _ w _ _ f.1)
+    simp c.unit_at-unit.ensures (in-medium _ _ _ c.requires _ _ f.1)
 
-pub slice_bounds-bytes-end : goal.slice_bounds-bytes-end
+pub hand_out-requires-in-Reply : goal.hand_out-requires-in-Reply
 unfolding reply_packet
-slice_bounds-bytes-end c = (held _ _ c.reply_bytes-packet.ensures (reply-short _ c.in-Reply.reply)).room
-
-pub slice_bounds-hand_out-end : goal.slice_bounds-hand_out-end
-unfolding reply_packet
-slice_bounds-hand_out-end c = let h = held _ _ c.reply_bytes-packet.ensures (reply-short _ c.in-Reply.reply) in h.count ∙ ap length (sym h.is)
-
-pub hand_out-count-requires-in-Reply : goal.hand_out-count-requires-in-Reply
-unfolding reply_packet
-hand_out-count-requires-in-Reply c = rw (held _ _ c.reply_bytes-packet.ensures (reply-short _ c.in-Reply.reply)).is ((found _ _ _ c.requires _ _ _ _ c.ask.ensures c.in-Packet.is c.in-Reply.is).1 _)
+hand_out-requires-in-Reply c =
+    rw (c.as_slice.ensures ∙ (held _ _ c.reply_bytes-packet.ensures (reply-short _ c.in-Reply.reply)).slice) ((found _ _ _ c.requires _ _ _ _ c.ask.ensures c.in-Packet.is c.in-Reply.is).1 _)
 
 pub returns-in-Quiet : goal.returns-in-Quiet
 unfolding packet_in deliver
@@ -41,7 +32,7 @@ returns-in-Medium c =
     λ p.
     let w = c.requires in
     let f = found _ _ _ c.requires _ _ _ _ c.ask.ensures c.in-Packet.is c.in-Medium.is in
-    simp (c.hand_out-count.ensures.0, c.hand_out-count.ensures.1, add-sub_cancel_left, c.unit_at-unit.ensures) (delivers _ _ _ _ _ _ f.0 (medium-bytes _ _ _ w _ p _ _ f.1) (length_part _ _ _ (in-medium _ _ _ w _ _ f.1)))
+    simp (c.hand_out.ensures.0, c.hand_out.ensures.1, add-sub_cancel_left, c.unit_at-unit.ensures) (delivers _ _ _ _ _ _ f.0 (medium-bytes _ _ _ w _ p _ _ f.1) (length_part _ _ _ (in-medium _ _ _ w _ _ f.1)))
 
 pub returns-in-Reply : goal.returns-in-Reply
 unfolding reply_packet bytes_of
@@ -49,7 +40,7 @@ returns-in-Reply c =
     λ p.
     let h = held _ _ c.reply_bytes-packet.ensures (reply-short _ c.in-Reply.reply) in
     let f = found _ _ _ c.requires _ _ _ _ c.ask.ensures c.in-Packet.is c.in-Reply.is in
-    simp (c.hand_out-count-in-Reply.ensures.0, c.hand_out-count-in-Reply.ensures.1, add-sub_cancel_left, h.is) (delivers _ _ _ _ _ _ f.0 refl (length_part _ _ _ (f.1 _)))
+    simp (c.hand_out-in-Reply.ensures.0, c.hand_out-in-Reply.ensures.1, add-sub_cancel_left, c.as_slice.ensures ∙ h.slice) (delivers _ _ _ _ _ _ f.0 refl (length_part _ _ _ (f.1 _)))
 
 pub returns-in-Status : goal.returns-in-Status
 unfolding bytes_of

@@ -15,12 +15,12 @@ use Rattle.bulk.proofs.outward.on_data.Goals as goal
 pub returns-then-packet-ne64 : goal.returns-then-packet-ne64
 unfolding on_data cut_short cut_state when◌then◌else◌
 returns-then-packet-ne64 c =
-    λ i u. simp (ne_eqb _ _ c.if-packet-ne64.true, c.cut_state.ensures, c.wipe.ensures)
+    λ i. simp (ne_eqb _ _ c.if-packet-ne64.true, c.cut_state.ensures, c.wipe.ensures, c.with_sense.ensures)
 
 pub returns-then-held-lt512 : goal.returns-then-held-lt512
 unfolding on_data gathered gathered_state when◌then◌else◌
 returns-then-held-lt512 c =
-    λ i u. simp (eq-eqb _ _ c.if-packet-ne64.false, lt-ltb _ _ c.if-held-lt512.true, c.gathered_state.ensures, c.put_packet.ensures)
+    λ i. simp (eq-eqb _ _ c.if-packet-ne64.false, lt-ltb _ _ c.if-held-lt512.true, c.gathered_state.ensures, c.put_packet.ensures)
 
 pub returns : goal.returns
 unfolding on_data stored_block stored_state when◌then◌else◌
@@ -30,4 +30,4 @@ returns c =
     let l : length a.part.now ≡ 512 = search rules in
     let b : length (placed a.part.now a.held a.packet.now) ≡ 512 = length-placed a.part.now a.held a.packet.now ∙ l in
     let q : y ≡ placed (take (512 * a.block + 512 - 512 * a.block) (drop (512 * a.block) a.medium.now)) 0 (placed a.part.now a.held a.packet.now) = c.put.ensures.1 ∙ ap (placed _ 0) c.put_packet.ensures in
-    λ i u. simp (eq-eqb _ _ c.if-packet-ne64.false, le-ltb _ _ c.if-held-lt512.false, c.stored_state.ensures, c.wipe-2.ensures, whole-block (512 * a.block) (512 * a.block + 512 - 512 * a.block) a.medium.now _ y (omega arith) c.requires.place b q)
+    λ i. simp (eq-eqb _ _ c.if-packet-ne64.false, le-ltb _ _ c.if-held-lt512.false, c.stored_state.ensures, c.wipe-2.ensures, whole-block (512 * a.block) (512 * a.block + 512 - 512 * a.block) a.medium.now _ y (omega arith) c.requires.place b q)

@@ -5,4 +5,4 @@ use Rattle.bulk.proofs.outward.stored_state.Goals as goal
 
 pub returns : goal.returns
 unfolding stored_state
-returns c = simp (sym c.halt_at_end-haltout.ensures, sym c.next_out-stage.ensures) c.moved.ensures
+returns c = simp (sym c.halt_at_end-haltout.ensures, sym c.next_out.ensures) c.moved.ensures

@@ -1,14 +1,12 @@
 -- `fits_reply` meets its contract. Assumes nothing.
 use mathlib.Core.Path.{sym, ◌∙◌}
-use borrow.Author.Tests.{not-true, not-false}
 use Rattle.wire.specs.Choice.{◌and◌}
 use Rattle.bulk.proofs.show.fits_reply.Goals as goal
 
-pub returns-then-not-fits : goal.returns-then-not-fits
+pub returns-then-fits : goal.returns-then-fits
 unfolding ◌and◌
-returns-then-not-fits c = simp (sym c.fits.ensures ∙ not-true _ c.if-not-fits.true-raw)
+returns-then-fits c = simp (sym c.fits.ensures ∙ c.if-fits.true) c.is_reply.ensures
 
-pub returns : goal.returns
+pub returns-else-fits : goal.returns-else-fits
 unfolding ◌and◌
-returns c =
-    simp (sym c.fits.ensures ∙ not-false _ c.if-not-fits.false-raw) c.is_reply.ensures
+returns-else-fits c = simp (sym c.fits.ensures ∙ c.if-fits.false) c.if-fits.false

@@ -9,7 +9,7 @@ ask-requires c = c.requires
 
 pub returns-in-Quiet : goal.returns-in-Quiet
 unfolding show_asked
-returns-in-Quiet c = λ i p m. simp (sym c.ask.ensures ∙ c.in-Quiet.is)
+returns-in-Quiet c = λ i p m. simp (sym c.ask.ensures ∙ c.in-Quiet.is, c.nowhere.ensures)
 
 pub returns-in-Medium : goal.returns-in-Medium
 unfolding show_asked show_from
@@ -21,4 +21,4 @@ returns-in-Reply c = λ i p m. simp (comes _ _ _ _ _ c.ask.ensures c.in-Packet.i
 
 pub returns-in-Status : goal.returns-in-Status
 unfolding show_asked show_from
-returns-in-Status c = λ i p m. simp (comes _ _ _ _ _ c.ask.ensures c.in-Packet.is c.in-Status.is)
+returns-in-Status c = λ i p m. simp (comes _ _ _ _ _ c.ask.ensures c.in-Packet.is c.in-Status.is, c.nowhere-in-Status.ensures)

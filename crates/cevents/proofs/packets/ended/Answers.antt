@@ -1,8 +1,7 @@
 -- `ended` meets its contract. Assumes nothing.
-use mathlib.Core.Path.{refl}
-use Rattle.cevents.specs.Ways.{ended}
+use Rattle.cevents.specs.Ways.{moved_on, ended}
 use Rattle.cevents.proofs.packets.ended.Goals as goal
 
 pub returns : goal.returns
-unfolding ended
-returns c = refl
+unfolding ended moved_on
+returns c = simp c.moved_on.ensures

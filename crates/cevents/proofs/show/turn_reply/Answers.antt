@@ -1,15 +1,17 @@
 -- `turn_reply` meets its contract. Assumes nothing.
-use mathlib.Core.Path.{sym, ◌∙◌}
-use borrow.Author.Tests.{not-true, not-false}
+use Rattle.cevents.proofs.Options.{was-none, was-some}
 use Rattle.cevents.proofs.ShownTurns.{refuses-reply, decoded-reply}
 use Rattle.cevents.proofs.show.turn_reply.Goals as goal
 
-pub returns-then-not-stands : goal.returns-then-not-stands
-returns-then-not-stands c = λ p m. let a = c.args in refuses-reply a.given a.flat a.units p m a.buffer.now (sym c.stands.ensures ∙ not-true _ c.if-not-stands.true-raw)
+pub returns-in_default : goal.returns-in_default
+returns-in_default c =
+    λ m.
+    let a = c.args in
+    simp c.refused.ensures (refuses-reply a.held.now a.units.now m a.buffer.now (was-none _ _ _ c.state_from.ensures c.in_default.is))
 
 pub returns : goal.returns
 returns c =
-    λ p m.
+    λ m.
     let a = c.args in
-    decoded-reply a.given a.flat a.units p m a.buffer.now _ _ c.reply_parts-answer.result _ _ (sym c.stands.ensures ∙ not-false _ c.if-not-stands.false-raw) c.identity_from.ensures c.state_from.ensures
-    (c.reply_parts-answer.ensures p m) c.told.ensures
+    let s = was-some _ _ _ c.state_from.ensures _ c.in-Some.is in
+    decoded-reply a.held.now a.units.now m a.buffer.now _ _ _ s.0 c.from-identity.ensures s.1 _ _ (c.reply_parts.ensures a.held.now.part m) c.from.ensures

@@ -1,24 +1,17 @@
 -- `any_in` meets its contract. Assumes nothing.
-use mathlib.Core.Path.{refl, sym, ◌∙◌}
-use mathlib.Core.Bool.{false}
-use borrow.Author.Tests.{not-true, not-false}
+use Rattle.std.proofs.Common.{rules, refl}
 use Rattle.machine.specs.Machine as machine
 use Rattle.machine.specs.Machine.{lent}
-use Rattle.units.specs.Held.{table_of}
-use Rattle.cevents.proofs.Turns.{refuses, decoded}
+use Rattle.crecord.specs.Flat.{decodes}
+use Rattle.cevents.proofs.Turns.{either, same, ran}
 use Rattle.cevents.proofs.turn.any_in.Goals as goal
 
-pub returns-then-not-stands : goal.returns-then-not-stands
-unfolding lent
-returns-then-not-stands c =
-    λ p.
-    let a = c.args in
-    refuses a.given a.flat a.units (machine.bulk_in a.buffer.now) p a.medium.now _ _ false a.units (sym c.stands.ensures ∙ not-true _ c.if-not-stands.true-raw) c.refused_ask.ensures.0 c.refused_ask.ensures.1 refl
-
 pub returns : goal.returns
+unfolding lent
 returns c =
-    λ p.
     let a = c.args in
-    let r = c.in_parts-served.result in
-    decoded a.given a.flat a.units (machine.bulk_in a.buffer.now) p a.medium.now _ _ r.answer r.state (table_of a.units) _ _ _ _ _ _ (sym c.stands.ensures ∙ not-false _ c.if-not-stands.false-raw) c.identity_from.ensures c.state_from.ensures
-    (c.in_parts-served.ensures p) c.told-told.ensures c.flat_of-flat.ensures (λ _. refl)
+    let e = machine.bulk_in a.buffer.now in
+    either (decodes a.held.now.flat)
+    (λ d. let r = c.decoded.ensures.ran d in
+    ran a.held.now a.units.now a.medium.now e r.identity r.state.now r.part.now r.answered r.state'.now _ r.part'.now _ _ _ _ d r.of_given r.of_flat r.of_part r.told r.left (let k = r.ran.met.1 in search (r, k, rules)))
+    (λ d. let r = c.decoded.ensures.refused d in same a.held.now a.units.now a.medium.now e _ _ _ _ _ d r.0 r.1 refl refl (search (r, rules)))

@@ -1,32 +1,27 @@
 -- `turn_control` meets its contract. Assumes nothing.
-use mathlib.Core.Path.{sym, ◌∙◌}
-use borrow.Author.Tests.{not-true, not-false}
 use Rattle.machine.specs.Machine as machine
 use Rattle.machine.specs.Machine.{lent}
-use Rattle.units.specs.Held.{table_of}
-use Rattle.units.specs.Change.{applied}
+use Rattle.cevents.proofs.Options.{was-none, was-some}
 use Rattle.cevents.proofs.Turns.{refuses, decoded, unchanged}
 use Rattle.cevents.proofs.turn.turn_control.Goals as goal
 
-pub returns-then-not-stands : goal.returns-then-not-stands
+pub returns-in_default : goal.returns-in_default
 unfolding lent
-returns-then-not-stands c =
+returns-in_default c =
     λ m.
     let a = c.args in
-    refuses a.given a.flat a.units (machine.control a.setup.now a.buffer.now) a.part.now m _ _ _ _ (sym c.stands.ensures ∙ not-true _ c.if-not-stands.true-raw) c.refused.ensures.0 c.refused.ensures.1.0 c.refused.ensures.1.1
+    simp c.refused.ensures (refuses a.held.now a.units.now m (machine.control a.setup.now a.buffer.now) (was-none _ _ _ c.state_from.ensures c.in_default.is))
 
-pub returns-then-data : goal.returns-then-data
-returns-then-data c =
+pub returns-then-not-data : goal.returns-then-not-data
+returns-then-not-data c =
     λ m.
     let a = c.args in
-    let r = c.control_parts-moved.result in
-    unchanged a.given a.flat a.units a.setup.now a.part.now m a.buffer.now _ _ r.answer r.state (applied r.change (table_of a.units)) _ _ _ (sym c.stands.ensures ∙ not-false _ c.if-not-stands.false-raw) c.identity_from.ensures c.state_from.ensures
-    (c.control_parts-moved.ensures m) c.told-told.ensures c.if-data.true
+    let s = was-some _ _ _ c.state_from.ensures _ c.in-Some.is in
+    decoded a.held.now a.units.now (machine.control a.setup.now a.buffer.now) m _ _ _ _ _ _ _ _ _ _ s.0 c.from-identity.ensures s.1 (c.control_parts-answer.ensures m) c.from-told.ensures c.from-held.ensures
 
-pub returns : goal.returns
-returns c =
+pub returns-else-not-data : goal.returns-else-not-data
+returns-else-not-data c =
     λ m.
     let a = c.args in
-    let r = c.control_parts-moved.result in
-    decoded a.given a.flat a.units (machine.control a.setup.now a.buffer.now) a.part.now m _ _ r.answer r.state (applied r.change (table_of a.units)) _ _ _ _ _ _ (sym c.stands.ensures ∙ not-false _ c.if-not-stands.false-raw) c.identity_from.ensures c.state_from.ensures
-    (c.control_parts-moved.ensures m) (c.turned.ensures.0 ∙ c.told-told.ensures) (c.turned.ensures.1.0 ∙ c.flat_of-flat.ensures) c.turned.ensures.1.1
+    let s = was-some _ _ _ c.state_from.ensures _ c.in-Some.is in
+    unchanged a.held.now a.units.now a.setup.now m a.buffer.now _ _ _ _ _ _ _ _ s.0 c.from-identity.ensures s.1 (c.control_parts-answer.ensures m) c.from-told.ensures c.if-not-data.false

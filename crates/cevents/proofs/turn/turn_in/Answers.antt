@@ -1,19 +1,27 @@
 -- `turn_in` meets its contract. Assumes nothing.
-use Rattle.units.specs.Held.{table_of}
+use mathlib.Core.Path.{◌∙◌}
+use Rattle.machine.specs.Machine.{bulk_in}
+use Rattle.cevents.specs.Events.{on_record}
 use Rattle.cevents.proofs.Places.{placed-whole}
 use Rattle.cevents.proofs.Ways.{in-medium}
+use Rattle.cevents.proofs.turn.turn_in.Goals.{in-Some+in_default-quick_in, in_default}
 use Rattle.cevents.proofs.turn.turn_in.Goals as goal
 
-pub quick_in-quick-requires : goal.quick_in-quick-requires
-quick_in-quick-requires c =
-    λ e.
+pub quick_in-requires : goal.quick_in-requires
+quick_in-requires c =
     let a = c.args in
-    in-medium a.given a.flat (table_of a.units) a.medium.now c.place_among-place.result (placed-whole _ _ _ _ c.place_among-place.ensures e)
+    let h = a.held.now in
+    in-medium h.given h.flat a.units.now a.medium.now c.in-Some.place (placed-whole _ _ _ _ _ c.place_in.ensures c.in-Some.is)
 
-pub returns-then-done : goal.returns-then-done
-returns-then-done c =
-    λ p. c.quick_in-quick.ensures.answers c.if-done.true (table_of c.args.units) (placed-whole _ _ _ _ c.place_among-place.ensures) p
+pub returns-in-Some-quick_in : goal.returns-in-Some-quick_in
+returns-in-Some-quick_in c = c.quick_in.ensures.answers _ c.in-Some-quick_in.is c.args.units.now (placed-whole _ _ _ _ _ c.place_in.ensures c.in-Some.is)
 
 pub returns : goal.returns
 returns c =
-    λ p. simp c.copied_ask.ensures (rw (c.quick_in-quick.ensures.keeps c.if-done.false) at (rw c.copied.ensures at (c.any_in.ensures p)))
+    let a = c.args in
+    elim c.match-place_in.branch [
+      | in-Some+in_default-quick_in w ↦
+          let k = w.quick_in.ensures.keeps w.in_default-quick_in.is in
+          c.any_in.ensures ∙ (λ j. on_record ((w.held-is ∙ k.0) j) a.units.now a.medium.now (bulk_in ((w.buffer-is ∙ k.1) j)))
+      | in_default w ↦ c.any_in.ensures ∙ (λ j. on_record (w.held-is j) a.units.now a.medium.now (bulk_in (w.buffer-is j)))
+    ]

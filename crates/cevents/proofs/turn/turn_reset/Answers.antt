@@ -1,24 +1,18 @@
 -- `turn_reset` meets its contract. Assumes nothing.
-use mathlib.Core.Path.{sym, ◌∙◌}
-use borrow.Author.Tests.{not-true, not-false}
+use Rattle.std.proofs.Common.{rules, refl}
 use Rattle.machine.specs.Machine as machine
 use Rattle.machine.specs.Machine.{lent}
-use Rattle.units.specs.Held.{table_of}
-use Rattle.units.specs.Change.{applied}
-use Rattle.cevents.proofs.Turns.{refuses, decoded}
+use Rattle.crecord.specs.Flat.{decodes}
+use Rattle.cevents.proofs.Turns.{either, same, ran}
 use Rattle.cevents.proofs.turn.turn_reset.Goals as goal
 
-pub returns-then-not-stands : goal.returns-then-not-stands
-unfolding lent
-returns-then-not-stands c =
-    λ m.
-    let a = c.args in
-    refuses a.given a.flat a.units (machine.bus_reset) a.part.now m _ _ _ _ (sym c.stands.ensures ∙ not-true _ c.if-not-stands.true-raw) c.refused.ensures.0 c.refused.ensures.1.0 c.refused.ensures.1.1
-
 pub returns : goal.returns
+unfolding lent
 returns c =
     λ m.
     let a = c.args in
-    let r = c.reset_parts-moved.result in
-    decoded a.given a.flat a.units (machine.bus_reset) a.part.now m _ _ r.answer r.state (applied r.change (table_of a.units)) _ _ _ _ _ _ (sym c.stands.ensures ∙ not-false _ c.if-not-stands.false-raw) c.identity_from.ensures c.state_from.ensures
-    (c.reset_parts-moved.ensures m) (c.turned.ensures.0 ∙ c.told-told.ensures) (c.turned.ensures.1.0 ∙ c.flat_of-flat.ensures) c.turned.ensures.1.1
+    let e = machine.bus_reset in
+    either (decodes a.held.now.flat)
+    (λ d. let r = c.decoded.ensures.ran d in
+    ran a.held.now a.units.now m e r.identity r.state.now r.part.now r.answered r.state'.now _ r.part'.now _ _ _ _ d r.of_given r.of_flat r.of_part r.told r.left (let k = r.ran.met.1 in search (r, k, rules)))
+    (λ d. let r = c.decoded.ensures.refused d in same a.held.now a.units.now m e _ _ _ _ _ d r.0 r.1 (search (r, rules)) refl refl)

@@ -1,24 +1,23 @@
 -- `turn_switch` meets its contract. Assumes nothing.
-use mathlib.Core.Path.{sym, ◌∙◌}
-use borrow.Author.Tests.{not-true, not-false}
+use mathlib.Core.Path.{sym, ap, ◌∙◌}
+use Rattle.crecord.specs.Flat.{flat_of}
+use Rattle.crecord.proofs.RoundTrip.{round_trip}
 use Rattle.machine.specs.Machine as machine
 use Rattle.machine.specs.Machine.{lent}
-use Rattle.units.specs.Held.{table_of}
-use Rattle.units.specs.Change.{applied}
+use Rattle.cevents.proofs.Options.{was-none, was-some}
 use Rattle.cevents.proofs.Turns.{refuses, decoded}
 use Rattle.cevents.proofs.turn.turn_switch.Goals as goal
 
-pub returns-then-not-stands : goal.returns-then-not-stands
+pub returns-in_default : goal.returns-in_default
 unfolding lent
-returns-then-not-stands c =
-    λ p m.
+returns-in_default c =
+    λ m.
     let a = c.args in
-    refuses a.given a.flat a.units (machine.set_switch a.position a.lun) p m _ _ _ _ (sym c.stands.ensures ∙ not-true _ c.if-not-stands.true-raw) c.refused.ensures.0 c.refused.ensures.1.0 c.refused.ensures.1.1
+    simp c.refused.ensures (refuses a.held.now a.units.now m (machine.set_switch a.position a.lun) (was-none _ _ _ c.state_from.ensures c.in_default.is))
 
 pub returns : goal.returns
 returns c =
-    λ p m.
+    λ m.
     let a = c.args in
-    let r = c.switch_parts-moved.result in
-    decoded a.given a.flat a.units (machine.set_switch a.position a.lun) p m _ _ r.answer r.state (applied r.change (table_of a.units)) _ _ _ _ _ _ (sym c.stands.ensures ∙ not-false _ c.if-not-stands.false-raw) c.identity_from.ensures c.state_from.ensures
-    (c.switch_parts-moved.ensures p m) (c.turned.ensures.0 ∙ c.told-told.ensures) (c.turned.ensures.1.0 ∙ c.flat_of-flat.ensures) c.turned.ensures.1.1
+    let s = was-some _ _ _ c.state_from.ensures _ c.in-Some.is in
+    decoded a.held.now a.units.now (machine.set_switch a.position a.lun) m _ _ _ _ _ _ _ _ _ _ s.0 c.from-identity.ensures s.1 (c.switch_parts.ensures a.held.now.part m) c.from.ensures (sym (ap flat_of s.1 ∙ round_trip.read_is_written a.held.now.flat s.0))

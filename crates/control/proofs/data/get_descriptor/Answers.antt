@@ -1,8 +1,10 @@
 -- `get_descriptor` meets its contract. Assumes nothing.
+use Prim.Native.Nat.{ℕ, min}
 use mathlib.Core.Path.{◌≡◌, sym, ap, ◌∙◌}
-use native.Mathlib.Omega.{arith}
-use lib.ListN.{length, take, length-take}
-use lib.Seq.{take_all}
+use mathlib.Core.List.{List}
+use lib.ListN.{length, take}
+use Rattle.std.proofs.Math.Nat.{min_comm}
+use Rattle.std.proofs.lemmas.List.{take_min}
 use Rattle.machine.specs.Record.{device}
 use Rattle.machine.specs.World.{world}
 use Rattle.machine.specs.Control.{perform}
@@ -11,51 +13,16 @@ use Rattle.wire.proofs.Packets.{held}
 use Rattle.control.proofs.Lengths.{descriptor_long}
 use Rattle.control.proofs.data.get_descriptor.Goals as goal
 
-pub slice_bounds-bytes-end : goal.slice_bounds-bytes-end
-unfolding descriptor_packet
-slice_bounds-bytes-end c =
-    let h = held _ _ c.descriptor_bytes-packet.ensures (descriptor_long c.args.which c.args.identity) in
-    let r = h.room in
-    let n = h.count in
-    omega (arith, c.if-wanted-size.true)
-
-pub slice_bounds-send-end : goal.slice_bounds-send-end
-unfolding descriptor_packet
-slice_bounds-send-end c =
-    let h = held _ _ c.descriptor_bytes-packet.ensures (descriptor_long c.args.which c.args.identity) in
-    let r = h.room in
-    let n = h.count in
-    simp length-take (omega (arith, c.if-wanted-size.true))
-
-pub returns-then-wanted-size : goal.returns-then-wanted-size
-unfolding perform descriptor_packet
-returns-then-wanted-size c =
-    λ p m us.
-    let h = held _ _ c.descriptor_bytes-packet.ensures (descriptor_long c.args.which c.args.identity) in
-    let r = h.room in
-    let n = h.count in
-    let a = c.args in
-    simp (sym (h.front a.wlength (omega (arith, c.if-wanted-size.true)))) (c.send.ensures (world (device a.identity a.state p) us m))
-
-pub slice_bounds-bytes-end-2 : goal.slice_bounds-bytes-end-2
-unfolding descriptor_packet
-slice_bounds-bytes-end-2 c =
-    let h = held _ _ c.descriptor_bytes-packet.ensures (descriptor_long c.args.which c.args.identity) in
-    h.room
-
-pub slice_bounds-send-end-2 : goal.slice_bounds-send-end-2
-unfolding descriptor_packet
-slice_bounds-send-end-2 c =
-    let h = held _ _ c.descriptor_bytes-packet.ensures (descriptor_long c.args.which c.args.identity) in
-    h.count ∙ ap length (sym h.is)
-
 pub returns : goal.returns
 unfolding perform descriptor_packet
 returns c =
-    λ p m us.
-    let h = held _ _ c.descriptor_bytes-packet.ensures (descriptor_long c.args.which c.args.identity) in
-    let r = h.room in
-    let n = h.count in
+    λ s p m us.
     let a = c.args in
-    let e : take a.wlength (descriptor_data a.which a.identity) ≡ take c.descriptor_bytes-packet.result.len c.descriptor_bytes-packet.result.bytes = take_all a.wlength _ (omega (arith, c.if-wanted-size.false)) ∙ sym h.is in
-    simp e (c.send-2.ensures (world (device a.identity a.state p) us m))
+    let d = descriptor_data a.which a.identity in
+    let h = c.as_slice-bytes.ensures ∙ (held _ _ c.descriptor_bytes-packet.ensures (descriptor_long a.which a.identity)).slice in
+    let e : take c.min.result c.as_slice-bytes.result.now ≡ take a.wlength d =
+    ap (λ (k : ℕ). take k c.as_slice-bytes.result.now) c.min.ensures
+    ∙ ap (λ (l : List ℕ). take (min (length l) a.wlength) l) h
+    ∙ ap (λ (k : ℕ). take k d) (min_comm (length d) a.wlength)
+    ∙ take_min a.wlength d
+    in simp (sym e) (c.send.ensures (world (device a.identity s p) us m))

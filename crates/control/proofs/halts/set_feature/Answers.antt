@@ -27,9 +27,9 @@ returns-else-on c = λ w b. simp (c.if-on.false, c.in-Control.is)
 pub returns-in-BulkIn : goal.returns-in-BulkIn
 unfolding set_halt clear_halt halt_in
 returns-in-BulkIn c =
-    λ w b. simp c.in-BulkIn.is (c.acked.ensures w b ∙ at_pipe halt_in _ _ b _ (simp (sym c.halt-next.ensures) c.with_halts.ensures))
+    λ w b. simp c.in-BulkIn.is (c.acked.ensures w b ∙ at_pipe halt_in _ _ b _ (simp (sym c.halt-halted.ensures) c.with_halts.ensures))
 
 pub returns-in-BulkOut : goal.returns-in-BulkOut
 unfolding set_halt clear_halt halt_out
 returns-in-BulkOut c =
-    λ w b. simp c.in-BulkOut.is (c.acked-in-BulkOut.ensures w b ∙ at_pipe halt_out _ _ b _ (simp (sym c.halt-next.ensures) c.with_halts-in-BulkOut.ensures))
+    λ w b. simp c.in-BulkOut.is (c.acked-in-BulkOut.ensures w b ∙ at_pipe halt_out _ _ b _ (simp (sym c.halt-halted.ensures) c.with_halts-in-BulkOut.ensures))

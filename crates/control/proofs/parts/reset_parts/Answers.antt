@@ -1,7 +1,6 @@
 -- `reset_parts` meets its contract. Assumes nothing.
 use mathlib.Core.Path.{ap, ◌∙◌}
 use mathlib.Core.List.{[]}
-use Rattle.units.specs.Held.{table_of}
 use Rattle.machine.specs.Record.{device}
 use Rattle.machine.specs.World.{world}
 use Rattle.machine.specs.Control.{reset}
@@ -9,17 +8,17 @@ use Rattle.machine.specs.Machine.{lent, checks, effect, bus_reset, told}
 use Rattle.state.proofs.Gates.{refused, gone-on}
 use Rattle.control.proofs.parts.reset_parts.Goals as goal
 
-pub returns-in-Refuses : goal.returns-in-Refuses
+pub returns-in-Err : goal.returns-in-Err
 unfolding lent checks
-returns-in-Refuses c =
+returns-in-Err c =
     λ m.
     let a = c.args in
-    refused _ (world (device a.identity a.state a.part.now) (table_of a.units) m) bus_reset (simp c.fits.ensures at c.admit.ensures) _ c.in-Refuses.is
+    refused _ (world (device a.identity a.state.now a.part.now) a.units.now m) bus_reset (simp c.fits.ensures at c.admit.ensures) _ c.in-Err.is
 
-pub returns-in-Passes : goal.returns-in-Passes
+pub returns-in-Ok : goal.returns-in-Ok
 unfolding checks effect reset
-returns-in-Passes c =
+returns-in-Ok c =
     λ m.
     let a = c.args in
-    ap told (c.drop_command.ensures a.identity a.state (table_of a.units) m [])
-    ∙ gone-on _ (world (device a.identity a.state a.part.now) (table_of a.units) m) bus_reset (simp c.fits.ensures at c.admit.ensures) c.in-Passes.is
+    ap told (c.drop_command.ensures a.identity m [] _ _ _ _ c.dropped_state.ensures)
+    ∙ gone-on _ (world (device a.identity a.state.now a.part.now) a.units.now m) bus_reset (simp c.fits.ensures at c.admit.ensures) c.in-Ok.is

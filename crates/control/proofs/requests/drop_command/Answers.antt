@@ -4,4 +4,4 @@ use Rattle.control.proofs.requests.drop_command.Goals as goal
 
 pub returns : goal.returns
 unfolding dropped
-returns c = λ i s us m b. simp (c.dropped_state.ensures, c.wipe.ensures)
+returns c = λ i m b a k hi ho e. simp (e, c.clear.ensures, c.wipe.ensures)

@@ -4,4 +4,4 @@ use Rattle.control.proofs.requests.set_configuration.Goals as goal
 
 pub returns : goal.returns
 unfolding perform
-returns c = λ i us m b. c.drop_command.ensures i _ us m b
+returns c = λ i m b. c.drop_command.ensures i m b _ _ _ _ c.dropped_state-next.ensures

@@ -1,13 +1,14 @@
 -- `is_position` meets its contract. Assumes nothing.
-use borrow.Author.Tests.{le-leb, lt-leb}
+use native.Mathlib.Omega.{arith}
+use Rattle.std.proofs.lemmas.Bool.Decides.{nat_tests}
 use Rattle.wire.specs.Choice.{◌and◌}
 use Rattle.crecord.specs.Flat.{is_position}
 use Rattle.crecord.proofs.decode.is_position.Goals as goal
 
-pub returns-then-value-gt1 : goal.returns-then-value-gt1
+pub returns-then-value-le1 : goal.returns-then-value-le1
 unfolding is_position ◌and◌
-returns-then-value-gt1 c = simp (lt-leb _ _ c.if-value-gt1.true)
+returns-then-value-le1 c = grind (arith, nat_tests)
 
-pub returns : goal.returns
+pub returns-else-value-le1 : goal.returns-else-value-le1
 unfolding is_position ◌and◌
-returns c = simp (le-leb _ _ c.if-value-gt1.false)
+returns-else-value-le1 c = grind (arith, nat_tests)

@@ -1,13 +1,14 @@
 -- `no_value` meets its contract. Assumes nothing.
-use borrow.Author.Tests.{eq-eqb, ne_eqb}
+use native.Mathlib.Omega.{arith}
+use Rattle.std.proofs.lemmas.Bool.Decides.{nat_tests}
 use Rattle.wire.specs.Choice.{◌and◌}
 use Rattle.crecord.specs.Flat.{no_value}
 use Rattle.crecord.proofs.decode.no_value.Goals as goal
 
-pub returns-then-value-ne0 : goal.returns-then-value-ne0
+pub returns-then-value-eq0 : goal.returns-then-value-eq0
 unfolding no_value ◌and◌
-returns-then-value-ne0 c = simp (ne_eqb _ _ c.if-value-ne0.true)
+returns-then-value-eq0 c = grind (arith, nat_tests)
 
-pub returns : goal.returns
+pub returns-else-value-eq0 : goal.returns-else-value-eq0
 unfolding no_value ◌and◌
-returns c = simp (eq-eqb _ _ c.if-value-ne0.false)
+returns-else-value-eq0 c = grind (arith, nat_tests)

@@ -6,4 +6,4 @@ use Rattle.crecord.proofs.encode.sense_number.Goals as goal
 
 pub returns : goal.returns
 unfolding sense_number value
-returns c = omega arith
+returns c = let h = c.from_le_bytes.ensures in omega arith

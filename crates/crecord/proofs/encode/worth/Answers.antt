@@ -7,6 +7,6 @@ pub returns-then-on : goal.returns-then-on
 unfolding worth when◌then◌else◌
 returns-then-on c = simp c.if-on.true
 
-pub returns : goal.returns
+pub returns-else-on : goal.returns-else-on
 unfolding worth when◌then◌else◌
-returns c = simp c.if-on.false
+returns-else-on c = simp c.if-on.false

@@ -1,41 +1,40 @@
 -- `played` meets its contract. Assumes nothing.
-use mathlib.Core.Path.{refl, sym, ap, ◌∙◌}
+use mathlib.Core.Path.{ap, ◌∙◌}
 use Prim.Native.Nat.{ℕ}
 use native.Mathlib.Omega.{arith}
-use lib.Dec.{eqb}
-use borrow.Author.Tests.{ne_eqb, eq-eqb}
 use Rattle.recording.specs.Format.{is_formed}
 use Rattle.recording.proofs.Parses.{sound}
-use Rattle.player.proofs.Playing.{front_fits, plays, misfits, numbered, counted, as_table, heading-length}
+use Rattle.printout.proofs.Writes.{wrote_length}
+use Rattle.player.proofs.Playing.{front_fits, plays, misfits, table_misfits, table_plays, counted, heading-length}
 use Rattle.player.proofs.play.played.Goals as goal
 
-pub returns-then-number-ne1 : goal.returns-then-number-ne1
-returns-then-number-ne1 c =
-    misfits _ _ _ _ _ _ _ _ (as_table _ _ ∙ c.requires) (c.number_of-number.ensures ∙ numbered _ _ _ c.make-made.ensures) (ne_eqb _ _ c.if-number-ne1.true) (omega arith)
-    (front_fits _ _ _ _ (omega arith) c.refusal.ensures)
+pub returns-in-Err-clause-leaves : goal.returns-in-Err-clause-leaves
+returns-in-Err-clause-leaves c =
+    misfits _ _ _ _ _ _ _ _ _ _ c.requires c.in-Err.ensures c.number-number.ensures (omega arith)
+    (front_fits _ _ _ _ _ _ c.new-text.ensures.held c.new-text.ensures.at (omega arith) c.refusal.ensures.wrote)
 
-pub events-last-requires : goal.events-last-requires
-events-last-requires c = let n = c.count_of-count in
-    let m = c.make-made in
-    let u = counted _ _ _ m.result.units m.ensures refl in
-    let w = sound _ _ _ (ap (λ (k : ℕ). is_formed k c.args.input.now) u ∙ as_table _ _ ∙ c.requires) n.ensures in
-    let h = (front_fits _ _ _ _ (omega arith) c.heading-at.ensures).place in
-    let l = heading-length n.result in
+pub events-requires : goal.events-requires
+events-requires c =
+    let m = c.in-Ok.ensures in
+    let w = sound _ _ _ (ap (λ (k : ℕ). is_formed k c.args.input.now) (counted _ _ _ _ m) ∙ c.requires) c.count_of-count.ensures in
+    let h = front_fits _ _ _ _ _ _ c.new-text.ensures.held c.new-text.ensures.at (omega arith) c.heading.ensures.wrote in
+    let p = h.place in
+    let k = wrote_length _ _ _ _ _ h in
+    let l = heading-length c.count_of-count.result in
     let few = w.few in
     (w.few, w.room, omega arith, w.good)
 
-pub returns : goal.returns
-returns c =
-    let e = c.events-last.ensures in
-    let m = c.make-made in
-    let number = c.number_of-number.ensures ∙ numbered _ _ _ m.ensures in
-    plays _ _ _ _ _ _ _ _ _ _ _ _
-    (as_table _ _ ∙ c.requires)
-    (ap (λ (k : ℕ). eqb k 1) (sym number) ∙ eq-eqb _ _ c.if-number-ne1.false)
-    m.ensures
-    (counted _ _ _ m.result.units m.ensures refl)
-    c.count_of-count.ensures
-    (front_fits _ _ _ _ (omega arith) c.heading-at.ensures)
-    e.0
-    e.1
-    (omega (arith, e.2))
+pub returns-clause-leaves : goal.returns-clause-leaves
+returns-clause-leaves c =
+    let e = c.events.ensures in
+    let m = c.in-Ok.ensures in
+    let h = front_fits _ _ _ _ _ _ c.new-text.ensures.held c.new-text.ensures.at (omega arith) c.heading.ensures.wrote in
+    let k = wrote_length _ _ _ _ _ h in
+    let within = e.within in
+    plays _ _ _ _ _ _ _ _ _ _ _ _ c.requires m c.count_of-count.ensures h e.wrote e.left (omega arith)
+
+pub returns-in-Err-clause-left : goal.returns-in-Err-clause-left
+returns-in-Err-clause-left c = table_misfits _ _ _ _ _ c.requires c.in-Err.ensures
+
+pub returns-clause-left : goal.returns-clause-left
+returns-clause-left c = table_plays _ _ _ _ _ _ _ c.requires c.in-Ok.ensures c.count_of-count.ensures c.events.ensures.left

@@ -1,29 +1,38 @@
 -- `entries_formed` meets its contract. Assumes nothing.
-use Prim.Native.Nat.{ℕ}
-use mathlib.Core.Path.{◌≡◌, refl, sym, ap, ◌∙◌}
+use Prim.Native.Nat.{ℕ, ◌+◌, ◌-◌}
+use mathlib.Core.Path.{◌≡◌, sym, ap, ◌∙◌}
+use mathlib.Core.List.{List}
 use native.Mathlib.Omega.{arith}
 use lib.ListN.{drop}
-use borrow.Author.Tests.{not-true, not-false}
+use Rattle.recording.specs.Cursor.{read_at, numbered}
 use Rattle.recording.specs.Format.{formed}
-use Rattle.recording.proofs.Cursors.{same-reading, first, unread, formed-end}
+use Rattle.recording.proofs.Cursors.{step, stopped, formed-end}
 use Rattle.recording.proofs.format.entries_formed.Goals as goal
 
-pub loop-left-init : goal.loop-left-init
-loop-left-init c = (record { table = omega arith; bodies = omega arith }, refl)
+pub returns-then-is_none : goal.returns-then-is_none
+returns-then-is_none c =
+    let l = c.loop in
+    let e = l.head.entry in
+    let b = l.head.body in
+    let read = c.next.ensures.read ∙ ap (λ (s : List ℕ). numbered (read_at c.args.units s e b)) l.invariant.same in
+    sym (l.invariant.left ∙ stopped _ _ _ _ _ _ read c.if-is_none.ensures (omega arith) l.invariant.place)
 
-pub returns-then-not-is_kind : goal.returns-then-not-is_kind
-returns-then-not-is_kind c =
-    let l = c.loop-left in
-    sym (l.invariant.1 ∙ unread _ _ _ _ _ _ (same-reading _ _ c.read_at-r.ensures) (omega arith) l.invariant.0 (sym c.is_kind.ensures ∙ not-true _ c.if-not-is_kind.true-raw))
-
-pub loop-left-preserved : goal.loop-left-preserved
-loop-left-preserved c =
-    let l = c.loop-left in
-    let f = first _ _ _ _ _ _ (same-reading _ _ c.read_at-r.ensures) (omega arith) l.invariant.0 (sym c.is_kind.ensures ∙ not-false _ c.if-not-is_kind.false-raw) in
-    (f.next, l.invariant.1 ∙ f.formed)
+pub loop-preserved : goal.loop-preserved
+loop-preserved c =
+    let l = c.loop in
+    let e = l.head.entry in
+    let b = l.head.body in
+    let n = c.next.ensures in
+    let read = n.read ∙ ap (λ (s : List ℕ). numbered (read_at c.args.units s e b)) l.invariant.same in
+    let s = step _ _ _ _ _ (c.args.count - (l.counter + 1)) _ read c.if-is_none.ensures (omega arith) l.invariant.place in
+    record {
+      same = rw n.recording l.invariant.same;
+      place = rw (n.entry, n.body) s.next;
+      left = rw (n.entry, n.body) (l.invariant.left ∙ s.formed);
+    }
 
 pub returns : goal.returns
 returns c =
-    let l = c.loop-left in
-    let done : l.left ≡ 0 = omega arith in
-    sym (l.invariant.1 ∙ ap (λ (n : ℕ). formed c.args.units n (drop l.entry c.args.s.now) (drop l.body c.args.s.now)) done ∙ formed-end _ _ _ _ l.invariant.0.bodies)
+    let l = c.loop in
+    let done : c.args.count - l.counter ≡ 0 = omega arith in
+    sym (l.invariant.left ∙ ap (λ (n : ℕ). formed c.args.units n (drop l.head.entry c.args.s.now) (drop l.head.body c.args.s.now)) done ∙ formed-end _ _ _ _ l.invariant.place.bodies)

@@ -7,35 +7,35 @@ use Rattle.wire.proofs.Masks.{mask}
 use Rattle.scsi.specs.Command.{plan_by, inquired}
 use Rattle.scsi.proofs.command.inquiry.Goals as goal
 
-pub returns-then-evpd-ne0 : goal.returns-then-evpd-ne0
+pub returns-then-evpd : goal.returns-then-evpd
 unfolding plan_by inquired when◌then◌else◌
-returns-then-evpd-ne0 c = λ n p.
+returns-then-evpd c = λ n p.
     simp (
-      sym c.byte-evpd.ensures,
-      mask 0 0 c.byte-evpd.result (lit≤ tt) ∙ ne_eqb _ _ c.if-evpd-ne0.true,
+      sym c.byte.ensures,
+      mask 0 0 c.byte.result (lit≤ tt) ∙ ne_eqb _ _ c.if-evpd.true,
       sym c.byte-code.ensures,
       sym c.be16-allocated.ensures,
       c.page.ensures,
     )
 
-pub returns-then-code-ne0 : goal.returns-then-code-ne0
+pub returns-else-code-eq0 : goal.returns-else-code-eq0
 unfolding plan_by inquired when◌then◌else◌
-returns-then-code-ne0 c = λ n p.
+returns-else-code-eq0 c = λ n p.
     simp (
-      sym c.byte-evpd.ensures,
-      mask 0 0 c.byte-evpd.result (lit≤ tt) ∙ eq-eqb _ _ c.if-evpd-ne0.false,
+      sym c.byte.ensures,
+      mask 0 0 c.byte.result (lit≤ tt) ∙ eq-eqb _ _ c.if-evpd.false,
       sym c.byte-code.ensures,
-      ne_eqb _ _ c.if-code-ne0.true,
+      ne_eqb _ _ c.if-code-eq0.false,
     )
 
-pub returns : goal.returns
+pub returns-then-code-eq0 : goal.returns-then-code-eq0
 unfolding plan_by inquired when◌then◌else◌
-returns c = λ n p.
+returns-then-code-eq0 c = λ n p.
     simp (
-      sym c.byte-evpd.ensures,
-      mask 0 0 c.byte-evpd.result (lit≤ tt) ∙ eq-eqb _ _ c.if-evpd-ne0.false,
+      sym c.byte.ensures,
+      mask 0 0 c.byte.result (lit≤ tt) ∙ eq-eqb _ _ c.if-evpd.false,
       sym c.byte-code.ensures,
-      eq-eqb _ _ c.if-code-ne0.false,
+      eq-eqb _ _ c.if-code-eq0.true,
       sym c.be16-allocated.ensures,
       c.cut.ensures,
     )

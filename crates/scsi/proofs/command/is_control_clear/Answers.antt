@@ -3,6 +3,7 @@ use Prim.Native.Nat.{ℕ, ◌-◌}
 use mathlib.Core.Path.{◌≡◌, refl, sym}
 use mathlib.Core.Bool.{Bool, true}
 use mathlib.Core.List.{List}
+use native.Mathlib.Omega.{arith}
 use lib.Dec.{lit≤, leb}
 use borrow.Author.Tests.{le-leb, lt-leb}
 use Rattle.wire.specs.Choice.{when◌then◌else◌}
@@ -31,18 +32,18 @@ by_length : (b : List ℕ) → control_clear b ≡ last-clear (block_length (byt
 unfolding control_clear block_length
 by_length b = every-row (byte_at b 0) b
 
-pub returns-then-size-le1 : goal.returns-then-size-le1
+pub returns-in-0 : goal.returns-in-0
 unfolding when◌then◌else◌
-returns-then-size-le1 c = simp (by_length, sym c.byte.ensures, sym c.block_length-size.ensures, le-leb _ _ c.if-size-le1.true)
+returns-in-0 c = simp (by_length, sym c.byte.ensures, sym c.block_length.ensures, le-leb c.block_length.result 1 (omega (arith, c.in-0.is)))
 
-pub returns : goal.returns
+pub returns-in_default : goal.returns-in_default
 unfolding when◌then◌else◌
-returns c =
+returns-in_default c =
     simp (
       by_length,
       sym c.byte.ensures,
-      sym c.block_length-size.ensures,
-      lt-leb _ _ c.if-size-le1.false,
-      sym c.byte-2.ensures,
-      mask 0 2 c.byte-2.result (lit≤ tt),
+      sym c.block_length.ensures,
+      lt-leb c.block_length.result 1 (omega arith),
+      sym c.byte-in_default.ensures,
+      mask 0 2 c.byte-in_default.result (lit≤ tt),
     )

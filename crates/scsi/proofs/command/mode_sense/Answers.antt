@@ -5,10 +5,10 @@ use Rattle.wire.specs.Choice.{when◌then◌else◌}
 use Rattle.scsi.specs.Command.{plan_by}
 use Rattle.scsi.proofs.command.mode_sense.Goals as goal
 
-pub returns-then-byte-ne63 : goal.returns-then-byte-ne63
+pub returns-else-byte-eq63 : goal.returns-else-byte-eq63
 unfolding plan_by when◌then◌else◌
-returns-then-byte-ne63 c = λ n p. simp (sym c.byte.ensures, ne_eqb _ _ c.if-byte-ne63.true)
+returns-else-byte-eq63 c = λ n p. simp (sym c.byte.ensures, ne_eqb _ _ c.if-byte-eq63.false)
 
-pub returns : goal.returns
+pub returns-then-byte-eq63 : goal.returns-then-byte-eq63
 unfolding plan_by when◌then◌else◌
-returns c = λ n p. simp (sym c.byte.ensures, eq-eqb _ _ c.if-byte-ne63.false, c.reply.ensures)
+returns-then-byte-eq63 c = λ n p. simp (sym c.byte.ensures, eq-eqb _ _ c.if-byte-eq63.true, c.reply.ensures)

@@ -3,10 +3,10 @@ use mathlib.Core.Path.{sym}
 use Rattle.scsi.specs.Command.{paged}
 use Rattle.scsi.proofs.command.page.Goals as goal
 
-pub returns-in-Missing : goal.returns-in-Missing
+pub returns-in-Some : goal.returns-in-Some
 unfolding paged
-returns-in-Missing c = simp (sym c.page_of.ensures, c.in-Missing.is)
+returns-in-Some c = simp (sym c.page_of.ensures, c.in-Some.is) c.cut.ensures
 
-pub returns-in-Found : goal.returns-in-Found
+pub returns-in-None : goal.returns-in-None
 unfolding paged
-returns-in-Found c = simp (sym c.page_of.ensures, c.in-Found.is) c.cut.ensures
+returns-in-None c = simp (sym c.page_of.ensures, c.in-None.is)

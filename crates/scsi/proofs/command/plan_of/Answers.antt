@@ -21,45 +21,45 @@ returns-then-not-is_control_clear c = simp (sym c.is_control_clear.ensures ∙ n
 
 pub returns-in-0 : goal.returns-in-0
 unfolding plan_by command_of look commands when◌then◌else◌
-returns-in-0 c = at_code 0x00 _ _ _ _ _ c.is_control_clear.ensures c.if-not-is_control_clear.false-raw c.byte-code.ensures c.in-0.is
+returns-in-0 c = at_code 0x00 _ _ _ _ _ c.is_control_clear.ensures c.if-not-is_control_clear.false-raw c.byte.ensures c.in-0.is
 
 pub returns-in-3 : goal.returns-in-3
 unfolding command_of look commands when◌then◌else◌
-returns-in-3 c = c.request_sense.ensures _ _ ∙ at_code 0x03 _ _ _ _ _ c.is_control_clear.ensures c.if-not-is_control_clear.false-raw c.byte-code.ensures c.in-3.is
+returns-in-3 c = c.request_sense.ensures _ _ ∙ at_code 0x03 _ _ _ _ _ c.is_control_clear.ensures c.if-not-is_control_clear.false-raw c.byte.ensures c.in-3.is
 
 pub returns-in-18 : goal.returns-in-18
 unfolding command_of look commands when◌then◌else◌
-returns-in-18 c = c.inquiry.ensures _ _ ∙ at_code 0x12 _ _ _ _ _ c.is_control_clear.ensures c.if-not-is_control_clear.false-raw c.byte-code.ensures c.in-18.is
+returns-in-18 c = c.inquiry.ensures _ _ ∙ at_code 0x12 _ _ _ _ _ c.is_control_clear.ensures c.if-not-is_control_clear.false-raw c.byte.ensures c.in-18.is
 
 pub returns-in-26 : goal.returns-in-26
 unfolding command_of look commands when◌then◌else◌
-returns-in-26 c = c.mode_sense.ensures _ _ ∙ at_code 0x1A _ _ _ _ _ c.is_control_clear.ensures c.if-not-is_control_clear.false-raw c.byte-code.ensures c.in-26.is
+returns-in-26 c = c.mode_sense.ensures _ _ ∙ at_code 0x1A _ _ _ _ _ c.is_control_clear.ensures c.if-not-is_control_clear.false-raw c.byte.ensures c.in-26.is
 
 pub returns-in-30 : goal.returns-in-30
 unfolding command_of look commands when◌then◌else◌
-returns-in-30 c = c.prevent_allow.ensures _ _ ∙ at_code 0x1E _ _ _ _ _ c.is_control_clear.ensures c.if-not-is_control_clear.false-raw c.byte-code.ensures c.in-30.is
+returns-in-30 c = c.prevent_allow.ensures _ _ ∙ at_code 0x1E _ _ _ _ _ c.is_control_clear.ensures c.if-not-is_control_clear.false-raw c.byte.ensures c.in-30.is
 
 pub returns-in-37 : goal.returns-in-37
 unfolding plan_by command_of look commands when◌then◌else◌
-returns-in-37 c = at_code 0x25 _ _ _ _ _ c.is_control_clear.ensures c.if-not-is_control_clear.false-raw c.byte-code.ensures c.in-37.is
+returns-in-37 c = at_code 0x25 _ _ _ _ _ c.is_control_clear.ensures c.if-not-is_control_clear.false-raw c.byte.ensures c.in-37.is
 
 pub returns-in-40 : goal.returns-in-40
 unfolding command_of look commands when◌then◌else◌
-returns-in-40 c = c.read10.ensures _ ∙ at_code 0x28 _ _ _ _ _ c.is_control_clear.ensures c.if-not-is_control_clear.false-raw c.byte-code.ensures c.in-40.is
+returns-in-40 c = c.read10.ensures _ ∙ at_code 0x28 _ _ _ _ _ c.is_control_clear.ensures c.if-not-is_control_clear.false-raw c.byte.ensures c.in-40.is
 
 pub returns-in-42 : goal.returns-in-42
 unfolding command_of look commands when◌then◌else◌
-returns-in-42 c = c.write10.ensures ∙ at_code 0x2A _ _ _ _ _ c.is_control_clear.ensures c.if-not-is_control_clear.false-raw c.byte-code.ensures c.in-42.is
+returns-in-42 c = c.write10.ensures ∙ at_code 0x2A _ _ _ _ _ c.is_control_clear.ensures c.if-not-is_control_clear.false-raw c.byte.ensures c.in-42.is
 
 pub returns-in-47 : goal.returns-in-47
 unfolding command_of look commands when◌then◌else◌
-returns-in-47 c = c.verify10.ensures _ ∙ at_code 0x2F _ _ _ _ _ c.is_control_clear.ensures c.if-not-is_control_clear.false-raw c.byte-code.ensures c.in-47.is
+returns-in-47 c = c.verify10.ensures _ ∙ at_code 0x2F _ _ _ _ _ c.is_control_clear.ensures c.if-not-is_control_clear.false-raw c.byte.ensures c.in-47.is
 
 pub returns-in_default : goal.returns-in_default
 unfolding plan_of plan_by command_of commands when◌then◌else◌
 returns-in_default c =
     simp (
       sym c.is_control_clear.ensures ∙ not-false _ c.if-not-is_control_clear.false-raw,
-      sym c.byte-code.ensures,
-      look-rest c.byte-code.result Unit commands unknown c.in_default.in_default-own.rest,
+      sym c.byte.ensures,
+      look-rest c.byte.result Unit commands unknown c.in_default.in_default-own.rest,
     )

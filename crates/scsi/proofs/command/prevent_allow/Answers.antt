@@ -11,6 +11,6 @@ pub returns-then-byte-ne0 : goal.returns-then-byte-ne0
 unfolding plan_by when◌then◌else◌
 returns-then-byte-ne0 c = λ n p. simp (sym c.byte.ensures, mask 0 0 c.byte.result (lit≤ tt) ∙ ne_eqb _ _ c.if-byte-ne0.true)
 
-pub returns : goal.returns
+pub returns-else-byte-ne0 : goal.returns-else-byte-ne0
 unfolding plan_by when◌then◌else◌
-returns c = λ n p. simp (sym c.byte.ensures, mask 0 0 c.byte.result (lit≤ tt) ∙ eq-eqb _ _ c.if-byte-ne0.false)
+returns-else-byte-ne0 c = λ n p. simp (sym c.byte.ensures, mask 0 0 c.byte.result (lit≤ tt) ∙ eq-eqb _ _ c.if-byte-ne0.false)

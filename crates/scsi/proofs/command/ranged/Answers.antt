@@ -24,9 +24,9 @@ returns-then-blocks-first c =
       c.first_outside.ensures,
     )
 
-pub returns : goal.returns
+pub returns-else-blocks-first : goal.returns-else-blocks-first
 unfolding ranged_of within when◌then◌else◌
-returns c =
+returns-else-blocks-first c =
     simp (
       sym c.byte.ensures,
       mask 5 7 c.byte.result (lit≤ tt) ∙ eq-eqb _ _ c.if-byte-ne0.false,

@@ -7,6 +7,6 @@ pub returns-then-protected : goal.returns-then-protected
 unfolding unless_protected when◌then◌else◌
 returns-then-protected c = simp c.if-protected.true
 
-pub returns : goal.returns
+pub returns-else-protected : goal.returns-else-protected
 unfolding unless_protected when◌then◌else◌
-returns c = simp c.if-protected.false
+returns-else-protected c = simp c.if-protected.false

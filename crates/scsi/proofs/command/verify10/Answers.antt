@@ -11,6 +11,6 @@ pub returns-then-byte-ne0 : goal.returns-then-byte-ne0
 unfolding plan_by when◌then◌else◌ ◌and◌
 returns-then-byte-ne0 c = λ p. simp (sym c.byte.ensures, mask 1 1 c.byte.result (lit≤ tt) ∙ ne_eqb _ _ c.if-byte-ne0.true)
 
-pub returns : goal.returns
+pub returns-else-byte-ne0 : goal.returns-else-byte-ne0
 unfolding plan_by ranged_of when◌then◌else◌ ◌and◌
-returns c = λ p. simp (c.ranged.ensures, sym c.byte.ensures, mask 1 1 c.byte.result (lit≤ tt) ∙ eq-eqb _ _ c.if-byte-ne0.false)
+returns-else-byte-ne0 c = λ p. simp (c.ranged.ensures, sym c.byte.ensures, mask 1 1 c.byte.result (lit≤ tt) ∙ eq-eqb _ _ c.if-byte-ne0.false)

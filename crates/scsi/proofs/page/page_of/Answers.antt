@@ -1,8 +1,8 @@
 -- `page_of` meets its contract. Assumes nothing.
 use mathlib.Core.Path.{sym}
+use Rattle.std.specs.Prelude.{None}
 use Rattle.wire.specs.Choice.{when◌then◌else◌, look}
 use Rattle.wire.proofs.Cases.{look-rest}
-use Rattle.scsi.specs.declared.page.Listed.TheVariants.{Missing}
 use Rattle.scsi.specs.Page.{pages, page_of}
 use Rattle.scsi.proofs.page.page_of.Goals as goal
 
@@ -20,4 +20,4 @@ returns-in-131 c = simp c.in-131.is
 
 pub returns-in_default : goal.returns-in_default
 unfolding page_of pages
-returns-in_default c = sym (look-rest _ Unit pages Missing c.in_default.in_default-own.rest)
+returns-in_default c = sym (look-rest _ Unit pages None c.in_default.in_default-own.rest)

@@ -1,11 +1,8 @@
 -- `inquiry_data` meets its contract. Assumes nothing.
-use Rattle.wire.specs.Choice.{when◌then◌else◌}
-use Rattle.wire.specs.Slices.{fits, placed}
 use Rattle.wire.specs.Texts.{padded}
 use Rattle.scsi.specs.Reply.{inquiry_data}
 use Rattle.scsi.proofs.reply.inquiry_data.Goals as goal
 
 pub returns : goal.returns
-unfolding inquiry_data padded placed fits when◌then◌else◌
-returns c =
-    simp (c.put-4.ensures.1, c.put-3.ensures.1, c.put-2.ensures.1, c.put.ensures.1)
+unfolding inquiry_data padded
+returns c = simp (c.copy_from_slice.ensures.after, c.copy_from_slice-2.ensures.after, c.copy_from_slice-3.ensures.after, c.copy_from_slice-4.ensures.after)

@@ -8,6 +8,7 @@ pub returns-then-is_out_of_range : goal.returns-then-is_out_of_range
 unfolding sense_data
 returns-then-is_out_of_range c = c.fixed_format.ensures ∙ sym (if-true _ _ _ (sym c.is_out_of_range.ensures ∙ c.if-is_out_of_range.true))
 
-pub returns : goal.returns
+pub returns-else-is_out_of_range : goal.returns-else-is_out_of_range
 unfolding sense_data
-returns c = c.fixed_format-2.ensures ∙ sym (if-false _ _ _ (sym c.is_out_of_range.ensures ∙ c.if-is_out_of_range.false))
+returns-else-is_out_of_range c =
+    c.fixed_format-else-is_out_of_range.ensures ∙ sym (if-false _ _ _ (sym c.is_out_of_range.ensures ∙ c.if-is_out_of_range.false))

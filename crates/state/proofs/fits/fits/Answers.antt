@@ -1,34 +1,61 @@
 -- `fits` meets its contract. Assumes nothing.
-use mathlib.Core.Path.{sym, ◌∙◌}
-use borrow.Author.Tests.{not-true, not-false, le-leb, lt-leb}
+use mathlib.Core.Path.{◌≡◌, refl, ◌∙◌}
+use lib.Dec.{leb}
 use Rattle.wire.specs.Choice.{◌and◌}
-use Rattle.machine.specs.Fits.{address_fits, fits}
+use Rattle.machine.specs.Units.{switches_fit}
+use Rattle.machine.specs.Fits.{number_fits, address_fits, idle_fits, lock_fits, task_fits, fits}
+use Rattle.state.proofs.Conditions.{and_assoc, then_and, else_and}
+use Rattle.state.proofs.fits.fits.Goals.{then-laid_out, else-laid_out, then-switches_fit, else-switches_fit, then-number_fits, else-number_fits, then-state-le127, else-state-le127, then-idle_fits, else-idle_fits}
 use Rattle.state.proofs.fits.fits.Goals as goal
 
-pub returns-then-not-laid_out : goal.returns-then-not-laid_out
-unfolding fits ◌and◌ address_fits
-returns-then-not-laid_out c = simp (sym c.laid_out.ensures ∙ not-true _ c.if-not-laid_out.true-raw)
+pub returns-then-lock_fits : goal.returns-then-lock_fits
+unfolding fits address_fits
+returns-then-lock_fits c =
+    let k = c.args in
+    let p : c.if-laid_out.value ≡ (c.laid_out.result and switches_fit k.units.now) = elim c.if-laid_out.branch [
+      | then-laid_out w ↦ then_and _ _ _ w.if-laid_out.true (w.value-is ∙ w.switches_fit.ensures)
+      | else-laid_out w ↦ else_and _ _ _ w.if-laid_out.false w.value-is
+    ] in
+    let q : c.if-switches_fit.value ≡ (c.if-laid_out.value and number_fits k.identity.number) = elim c.if-switches_fit.branch [
+      | then-switches_fit w ↦ then_and _ _ _ w.if-switches_fit.true (w.value-is ∙ w.number_fits.ensures)
+      | else-switches_fit w ↦ else_and _ _ _ w.if-switches_fit.false w.value-is
+    ] in
+    let r : c.if-number_fits.value ≡ (c.if-switches_fit.value and leb k.state.address 127) = elim c.if-number_fits.branch [
+      | then-number_fits w ↦ then_and _ _ _ w.if-number_fits.true w.value-is
+      | else-number_fits w ↦ else_and _ _ _ w.if-number_fits.false w.value-is
+    ] in
+    let s : c.if-state-le127.value ≡ (c.if-number_fits.value and idle_fits k.state k.units.now) = elim c.if-state-le127.branch [
+      | then-state-le127 w ↦ then_and _ _ _ w.if-state-le127.true (w.value-is ∙ w.idle_fits.ensures)
+      | else-state-le127 w ↦ else_and _ _ _ w.if-state-le127.false w.value-is
+    ] in
+    let t : c.if-idle_fits.value ≡ (c.if-state-le127.value and lock_fits k.state.link) = elim c.if-idle_fits.branch [
+      | then-idle_fits w ↦ then_and _ _ _ w.if-idle_fits.true (w.value-is ∙ w.lock_fits.ensures)
+      | else-idle_fits w ↦ else_and _ _ _ w.if-idle_fits.false w.value-is
+    ] in
+    then_and _ (task_fits k.units.now k.state.link.task) _ c.if-lock_fits.true c.task_fits.ensures ∙ simp (t, s, r, q, p, and_assoc, c.laid_out.ensures) refl
 
-pub returns-then-not-switches_fit : goal.returns-then-not-switches_fit
-unfolding fits ◌and◌ address_fits
-returns-then-not-switches_fit c = simp (sym c.laid_out.ensures ∙ not-false _ c.if-not-laid_out.false-raw, sym c.switches_fit.ensures ∙ not-true _ c.if-not-switches_fit.true-raw)
-
-pub returns-then-not-number_fits : goal.returns-then-not-number_fits
-unfolding fits ◌and◌ address_fits
-returns-then-not-number_fits c = simp (sym c.laid_out.ensures ∙ not-false _ c.if-not-laid_out.false-raw, sym c.switches_fit.ensures ∙ not-false _ c.if-not-switches_fit.false-raw, sym c.number_fits.ensures ∙ not-true _ c.if-not-number_fits.true-raw)
-
-pub returns-then-address-gt127 : goal.returns-then-address-gt127
-unfolding fits ◌and◌ address_fits
-returns-then-address-gt127 c = simp (sym c.laid_out.ensures ∙ not-false _ c.if-not-laid_out.false-raw, sym c.switches_fit.ensures ∙ not-false _ c.if-not-switches_fit.false-raw, sym c.number_fits.ensures ∙ not-false _ c.if-not-number_fits.false-raw, lt-leb _ _ c.if-address-gt127.true)
-
-pub returns-then-not-idle_fits : goal.returns-then-not-idle_fits
-unfolding fits ◌and◌ address_fits
-returns-then-not-idle_fits c = simp (sym c.laid_out.ensures ∙ not-false _ c.if-not-laid_out.false-raw, sym c.switches_fit.ensures ∙ not-false _ c.if-not-switches_fit.false-raw, sym c.number_fits.ensures ∙ not-false _ c.if-not-number_fits.false-raw, le-leb _ _ c.if-address-gt127.false, sym c.idle_fits.ensures ∙ not-true _ c.if-not-idle_fits.true-raw)
-
-pub returns-then-not-lock_fits : goal.returns-then-not-lock_fits
-unfolding fits ◌and◌ address_fits
-returns-then-not-lock_fits c = simp (sym c.laid_out.ensures ∙ not-false _ c.if-not-laid_out.false-raw, sym c.switches_fit.ensures ∙ not-false _ c.if-not-switches_fit.false-raw, sym c.number_fits.ensures ∙ not-false _ c.if-not-number_fits.false-raw, le-leb _ _ c.if-address-gt127.false, sym c.idle_fits.ensures ∙ not-false _ c.if-not-idle_fits.false-raw, sym c.lock_fits.ensures ∙ not-true _ c.if-not-lock_fits.true-raw)
-
-pub returns : goal.returns
-unfolding fits ◌and◌ address_fits
-returns c = simp (sym c.laid_out.ensures ∙ not-false _ c.if-not-laid_out.false-raw, sym c.switches_fit.ensures ∙ not-false _ c.if-not-switches_fit.false-raw, sym c.number_fits.ensures ∙ not-false _ c.if-not-number_fits.false-raw, le-leb _ _ c.if-address-gt127.false, sym c.idle_fits.ensures ∙ not-false _ c.if-not-idle_fits.false-raw, sym c.lock_fits.ensures ∙ not-false _ c.if-not-lock_fits.false-raw) c.task_fits.ensures
+pub returns-else-lock_fits : goal.returns-else-lock_fits
+unfolding fits address_fits
+returns-else-lock_fits c =
+    let k = c.args in
+    let p : c.if-laid_out.value ≡ (c.laid_out.result and switches_fit k.units.now) = elim c.if-laid_out.branch [
+      | then-laid_out w ↦ then_and _ _ _ w.if-laid_out.true (w.value-is ∙ w.switches_fit.ensures)
+      | else-laid_out w ↦ else_and _ _ _ w.if-laid_out.false w.value-is
+    ] in
+    let q : c.if-switches_fit.value ≡ (c.if-laid_out.value and number_fits k.identity.number) = elim c.if-switches_fit.branch [
+      | then-switches_fit w ↦ then_and _ _ _ w.if-switches_fit.true (w.value-is ∙ w.number_fits.ensures)
+      | else-switches_fit w ↦ else_and _ _ _ w.if-switches_fit.false w.value-is
+    ] in
+    let r : c.if-number_fits.value ≡ (c.if-switches_fit.value and leb k.state.address 127) = elim c.if-number_fits.branch [
+      | then-number_fits w ↦ then_and _ _ _ w.if-number_fits.true w.value-is
+      | else-number_fits w ↦ else_and _ _ _ w.if-number_fits.false w.value-is
+    ] in
+    let s : c.if-state-le127.value ≡ (c.if-number_fits.value and idle_fits k.state k.units.now) = elim c.if-state-le127.branch [
+      | then-state-le127 w ↦ then_and _ _ _ w.if-state-le127.true (w.value-is ∙ w.idle_fits.ensures)
+      | else-state-le127 w ↦ else_and _ _ _ w.if-state-le127.false w.value-is
+    ] in
+    let t : c.if-idle_fits.value ≡ (c.if-state-le127.value and lock_fits k.state.link) = elim c.if-idle_fits.branch [
+      | then-idle_fits w ↦ then_and _ _ _ w.if-idle_fits.true (w.value-is ∙ w.lock_fits.ensures)
+      | else-idle_fits w ↦ else_and _ _ _ w.if-idle_fits.false w.value-is
+    ] in
+    else_and _ (task_fits k.units.now k.state.link.task) _ c.if-lock_fits.false refl ∙ simp (t, s, r, q, p, and_assoc, c.laid_out.ensures) refl

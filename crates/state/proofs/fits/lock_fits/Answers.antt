@@ -4,16 +4,14 @@ use Rattle.wire.specs.Choice.{when◌then◌else◌, ◌and◌}
 use Rattle.machine.specs.Fits.{lock_fits}
 use Rattle.state.proofs.fits.lock_fits.Goals as goal
 
-pub returns-then-not-locked : goal.returns-then-not-locked
-unfolding lock_fits when◌then◌else◌ ◌and◌
-returns-then-not-locked c = simp (not-true c.args.link.locked c.if-not-locked.true-raw)
+pub returns-then-not-link : goal.returns-then-not-link
+unfolding lock_fits when◌then◌else◌
+returns-then-not-link c = simp (not-true c.args.link.locked c.if-not-link.true)
 
-pub returns-then-not-haltin : goal.returns-then-not-haltin
+pub returns-then-link : goal.returns-then-link
 unfolding lock_fits when◌then◌else◌ ◌and◌
-returns-then-not-haltin c =
-    simp (not-false c.args.link.locked c.if-not-locked.false-raw, not-true c.args.link.haltin c.if-not-haltin.true-raw)
+returns-then-link c = simp (not-false c.args.link.locked c.if-not-link.false, c.if-link.true)
 
-pub returns : goal.returns
+pub returns-else-link : goal.returns-else-link
 unfolding lock_fits when◌then◌else◌ ◌and◌
-returns c =
-    simp (not-false c.args.link.locked c.if-not-locked.false-raw, not-false c.args.link.haltin c.if-not-haltin.false-raw)
+returns-else-link c = simp (not-false c.args.link.locked c.if-not-link.false, c.if-link.false)

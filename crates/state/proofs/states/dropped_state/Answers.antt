@@ -4,4 +4,4 @@ use Rattle.state.proofs.states.dropped_state.Goals as goal
 
 pub returns : goal.returns
 unfolding dropped_state
-returns c = simp c.no_task-task.ensures
+returns c = simp c.no_task.ensures

@@ -1,9 +1,16 @@
 -- `clear` meets its contract. Assumes nothing.
 use mathlib.Core.Path.{refl}
+use native.Mathlib.Omega.{arith}
 use Rattle.machine.specs.Units.{with_sense, unsensed, cleared}
-use Rattle.units.proofs.Held.{mapped_table}
+use Rattle.units.proofs.Tables.{mapped_more}
 use Rattle.units.proofs.change.clear.Goals as goal
 
-pub returns : goal.returns
+pub loop-unit-init : goal.loop-unit-init
+unfolding cleared
+loop-unit-init c = refl
+
+pub loop-unit-preserved : goal.loop-unit-preserved
 unfolding cleared with_sense
-returns c = (refl, mapped_table unsensed _ _ refl refl c.with_sense.ensures c.with_sense-2.ensures c.with_sense-3.ensures c.with_sense-4.ensures)
+loop-unit-preserved c =
+    let l = c.loop-unit in
+    mapped_more unsensed c.args.units.now l.units l.unit-index _ _ (omega arith) (omega arith) l.invariant c.with_sense.ensures

@@ -1,10 +1,13 @@
 -- `is_calm` meets its contract. Assumes nothing.
-use mathlib.Core.Path.{refl}
-use Rattle.wire.specs.Choice.{◌and◌}
+use Rattle.std.proofs.Common.{◌∙◌, rules, tests}
+use Rattle.std.proofs.lemmas.Iterator.{YieldsList-from_slice}
+use Rattle.std.proofs.lemmas.Iterator.Search.{all_from_yields_List}
 use Rattle.scsi.specs.Sense.{is_no_sense}
-use Rattle.units.proofs.Held.{all-every}
+use Rattle.units.proofs.Tables.{every_is}
 use Rattle.units.proofs.table.is_calm.Goals as goal
 
 pub returns : goal.returns
-unfolding is_no_sense ◌and◌
-returns c = let e = all-every (λ u. is_no_sense u.sense) refl c.args.units in cc
+returns c =
+    let us = c.args.units.now in
+    all_from_yields_List (λ u. is_no_sense u.sense) _ _ _ c.all.ensures.ran (YieldsList-from_slice us cc) (λ x b q k. search (rules, tests))
+    ∙ every_is (λ u. is_no_sense u.sense) us

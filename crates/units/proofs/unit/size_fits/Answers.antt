@@ -4,10 +4,10 @@ use Rattle.wire.specs.Choice.{◌and◌}
 use Rattle.machine.specs.Units.{size_fits}
 use Rattle.units.proofs.unit.size_fits.Goals as goal
 
-pub returns-then-blocks-lt1 : goal.returns-then-blocks-lt1
+pub returns-then-blocks-ge1 : goal.returns-then-blocks-ge1
 unfolding size_fits ◌and◌
-returns-then-blocks-lt1 c = simp (lt-leb 1 _ c.if-blocks-lt1.true)
+returns-then-blocks-ge1 c = simp (le-leb 1 _ c.if-blocks-ge1.true)
 
-pub returns : goal.returns
+pub returns-else-blocks-ge1 : goal.returns-else-blocks-ge1
 unfolding size_fits ◌and◌
-returns c = simp (le-leb 1 _ c.if-blocks-lt1.false)
+returns-else-blocks-ge1 c = simp (lt-leb 1 _ c.if-blocks-ge1.false)

@@ -1,5 +1,5 @@
 -- The loop of `string_descriptor`: the header, the first i characters, zeros.
-use Prim.Native.Nat.{ℕ, ◌+◌, ◌*◌, ◌-◌, ◌≤◌}
+use Prim.Native.Nat.{ℕ, ◌+◌, ◌*◌, ◌-◌}
 use mathlib.Core.Path.{◌≡◌}
 use mathlib.Core.List.{List, ◌∷◌, ◌++◌}
 use lib.ListN.{length, take}
@@ -8,12 +8,8 @@ use Rattle.usb.specs.Descriptor.{utf16}
 use Rattle.usb.proofs.descriptor.string_descriptor.Given as goal
 
 -- the descriptor as far as i characters, in 64 bytes
-abbrev filled : List ℕ → ℕ → List ℕ
+abbrev pub filled : List ℕ → ℕ → List ℕ
 filled text i = (2 + 2 * length text) ∷ 0x03 ∷ utf16 (take i text) ++ zeros (62 - 2 * i)
 
 abbrev pub invariant-loop-i : goal.invariant-loop-i
-invariant-loop-i l =
-    (l.i ≤ length l.text) × ((l.n ≡ length l.text) × ((length l.bytes ≡ 64) × (l.bytes ≡ filled l.text l.i)))
-
-abbrev pub decreases-loop-i : goal.decreases-loop-i
-decreases-loop-i l = length l.text - l.i
+invariant-loop-i l = l.bytes ≡ filled l.text l.i

@@ -1,14 +1,10 @@
 -- `be16` meets its contract. Assumes nothing.
-use native.Mathlib.Omega.{arith}
-use Rattle.wire.specs.Numbers.{value}
-use Rattle.wire.specs.Slices.{bytes_at, zeros}
-use Rattle.wire.proofs.Lists.{bytes_past}
+use mathlib.Core.Path.{ap, ◌∙◌}
+use lib.ListN.{length}
+use Rattle.wire.specs.Numbers.{big}
+use Rattle.wire.proofs.Lists.{length-bytes}
+use Rattle.wire.proofs.Bytes.{big_read}
 use Rattle.wire.proofs.fields.be16.Goals as goal
 
-pub returns-then-s-at : goal.returns-then-s-at
-unfolding value zeros
-returns-then-s-at c = simp (bytes_past 2 c.args.at c.args.s.now c.if-s-at.true)
-
 pub returns : goal.returns
-unfolding value bytes_at
-returns c = omega arith
+returns c = c.from_be_bytes.ensures ∙ big_read 1 _ (ap length c.bytes_at.ensures ∙ length-bytes _ _ _) ∙ ap big c.bytes_at.ensures

@@ -1,7 +1,7 @@
 -- `put_be16` meets its contract. Assumes nothing.
-use Rattle.wire.specs.Numbers.{low}
+use mathlib.Core.Path.{◌∙◌}
+use Rattle.wire.proofs.Bytes.{big_written}
 use Rattle.wire.proofs.fields.put_be16.Goals as goal
 
 pub returns : goal.returns
-unfolding low
-returns c = c.put.ensures
+returns c = rw (c.to_be_bytes.ensures ∙ big_written 2 c.args.x) at c.put.ensures

@@ -1,7 +1,7 @@
 -- `put_le32` meets its contract. Assumes nothing.
-use Rattle.wire.specs.Numbers.{low}
+use mathlib.Core.Path.{◌∙◌}
+use Rattle.wire.proofs.Bytes.{little_written}
 use Rattle.wire.proofs.fields.put_le32.Goals as goal
 
 pub returns : goal.returns
-unfolding low
-returns c = c.put.ensures
+returns c = rw (c.to_le_bytes.ensures ∙ little_written 4 c.args.x) at c.put.ensures

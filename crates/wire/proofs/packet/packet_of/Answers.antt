@@ -11,8 +11,8 @@ returns-then-put c =
     let p = c.put in
     simp (p.ensures.1, sym p.ensures.0, c.if-put.true)
 
-pub returns : goal.returns
+pub returns-else-put : goal.returns-else-put
 unfolding packet_of when◌then◌else◌ zeros
-returns c =
+returns-else-put c =
     let p = c.put in
     simp (p.ensures.1, sym p.ensures.0, c.if-put.false)

@@ -1,17 +1,14 @@
 -- `is_out_of_range` meets its contract. Assumes nothing.
-use borrow.Author.Tests.{eq-eqb, ne_eqb}
+use native.Mathlib.Omega.{arith}
+use Rattle.std.proofs.lemmas.Bool.Decides.{nat_tests}
 use Rattle.wire.specs.Choice.{◌and◌}
 use Rattle.scsi.specs.Sense.{is_out_of_range}
 use Rattle.scsi.proofs.sense.Sense.is_out_of_range.Goals as goal
 
-pub returns-then-key-ne5 : goal.returns-then-key-ne5
+pub returns-then-self-eq33 : goal.returns-then-self-eq33
 unfolding is_out_of_range ◌and◌
-returns-then-key-ne5 c = simp (ne_eqb _ _ c.if-key-ne5.true)
+returns-then-self-eq33 c = grind (arith, nat_tests)
 
-pub returns-then-asc-ne33 : goal.returns-then-asc-ne33
+pub returns-else-self-eq33 : goal.returns-else-self-eq33
 unfolding is_out_of_range ◌and◌
-returns-then-asc-ne33 c = simp (eq-eqb _ _ c.if-key-ne5.false, ne_eqb _ _ c.if-asc-ne33.true)
-
-pub returns : goal.returns
-unfolding is_out_of_range ◌and◌
-returns c = simp (eq-eqb _ _ c.if-key-ne5.false, eq-eqb _ _ c.if-asc-ne33.false)
+returns-else-self-eq33 c = grind (arith, nat_tests)

@@ -1,0 +1,15 @@
+// How reading or writing a wrapper fails.
+use std::error::Error;
+use std::fmt;
+
+// Unreadable bytes, unwritable fields or a short buffer; the buffer is kept.
+#[derive(Clone, Copy, Debug, PartialEq, Eq)]
+pub struct Refused;
+
+impl fmt::Display for Refused {
+    fn fmt<W: fmt::Write>(&self, f: &mut fmt::Formatter<W>) -> fmt::Result {
+        f.write_str("refused")
+    }
+}
+
+impl Error for Refused {}
