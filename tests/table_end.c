@@ -38,11 +38,14 @@ static board with_table_at_end(const board *reached, size_t units)
     return board;
 }
 
-/* A count beyond the table's four units, to every call. */
+/* A count beyond the table's four units, and a table without units where nothing can be read, to every call. */
 static void expect_not_read(const board *reached)
 {
     static const size_t counts[] = {5, 6, 256, SIZE_MAX};
+    board none = with_table_at_end(reached, 0);
 
+    none.count = 0;
+    board_refused(&none);
     for (size_t at = 0; at < sizeof counts / sizeof counts[0]; at++) {
         board damaged = with_table_at_end(reached, UNITS);
 

@@ -15,6 +15,7 @@ pub enum Status {
 }
 
 impl Status {
+    // Its byte in a wrapper. Where it is called, this name says more than `u8::from`.
     pub fn code(self) -> u8
         ensures { result ≡ status_code self }
     {

@@ -16,7 +16,7 @@ use units::table::unit_at;
 use usb::descriptor::Identity;
 use wire::slices::{put, put_packet};
 
-// Copies `count` bytes of a source, from `start` on, and answers with them.
+// Copies `count` bytes of a source, from `start` on, and answers with them. A start and a count, as the machine says them.
 fn hand_out(source: &[u8], start: usize, count: u32, buffer: &mut [u8]) -> Answer
     requires { start + count ≤ length source.now }
     ensures { (result ≡ Answer.Data count) × (buffer.new ≡ placed buffer.old 0 (between start (start + count) source.now)) }

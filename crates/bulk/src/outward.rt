@@ -83,8 +83,8 @@ fn stored_state(state: State, block: u32, left: u32) -> State
 }
 
 // Data for the block being gathered; a whole block is stored at its place in the unit's part of the medium. A packet whose
-// length is not 64 ends the command. `block`, `left` and `held` are the fields of the stage, which is their struct; most
-// functions here take two of them.
+// length is not 64 ends the command. `block`, `left` and `held` are the fields of the stage: a second struct of the three would
+// say no more.
 fn on_data(
     state: &mut State,
     unit: &mut LogicalUnit,

@@ -8,6 +8,7 @@ use crate::place::Place;
 use crate::quick::{gathers, passes, reads_on};
 use bot::csw::{Csw, Status, csw_bytes};
 use crecord::record::{Flat, Record, Told};
+use machine::answer::Answer;
 use state::states::wipe;
 use wire::slices::{put, put_packet};
 
@@ -78,10 +79,7 @@ pub(crate) fn quick_out(
     if !gathers(held.given, flat, place.blocks, packet.len()) {
         return None;
     }
-    let ack = Told {
-        number: 1,
-        count: 0,
-    };
+    let ack = Told::from(Answer::Ack);
     put_packet(&mut held.part, flat.value as usize, packet);
     if flat.value + 64 < 512 {
         held.flat = moved_on(
@@ -127,10 +125,7 @@ fn quick_status(held: &mut Record, place: Place, medium: &[u8], buffer: &mut [u8
     };
     put(buffer, 0, &csw_bytes(csw));
     held.flat = ended(flat);
-    Some(Told {
-        number: 0,
-        count: 13,
-    })
+    Some(Told::from(Answer::Data { count: 13 }))
 }
 
 // A whole packet of a read, or the status; none of any other event, and nothing is done.
@@ -150,8 +145,5 @@ pub(crate) fn quick_in(
     let start = 512 * (place.first as usize) + (flat.place as usize);
     put_packet(buffer, 0, &medium[start..start + 64]);
     held.flat = read_on(flat);
-    Some(Told {
-        number: 0,
-        count: 64,
-    })
+    Some(Told::from(Answer::Data { count: 64 }))
 }

@@ -19,10 +19,12 @@ pub(crate) struct Place {
 fn fits_over(units: &[LogicalUnit], medium: usize) -> bool
     ensures { result ≡ (laid_out units.now and switches_fit units.now and eqb medium (512 * total units.now)) }
 {
+    // First, since no more than four units are read.
     if units.len() < 1 || 4 < units.len() {
         return false;
     }
     let mut next = 0;
+    // The sum goes on only over parts that fit.
     for unit in units {
         if unit.first != next || !size_fits(unit.blocks) || !switch_fits(unit.switch) {
             return false;

@@ -1,5 +1,6 @@
 // Whether an event is one of the commonest: a whole packet of a read or of a write, or the status of a command that
-// passed. The record need not be decoded for these. What is asked of the table is in place.rt.
+// passed. The record need not be decoded for these. What is asked of the table is in place.rt. They take the two parts of the
+// record that they ask, and not the third, its block.
 ghost use Rattle.std.specs.Prelude.{◌≡◌, true};
 ghost use Rattle.cevents.specs.Ways.{is_free, is_reading, reads_on, Passes, Gathers};
 

@@ -9,7 +9,9 @@ use bulk::show::{reply_parts, show_parts};
 use crecord::decode::state_from;
 use crecord::encode::shown;
 use crecord::record::{Flat, Record, Shown, Told};
+use machine::answer::{Answer, Refusal};
 use machine::record::LogicalUnit;
+use machine::show::Extent;
 use usb::descriptor::Identity;
 
 // Any showing call: decoded, done by `bulk`, encoded. It tells a place besides, so it does not go by `turn::decoded`.
@@ -17,12 +19,12 @@ fn any_show(held: &mut Record, units: &[LogicalUnit], medium: &[u8], reply: &[u8
     ensures { left_shown result held.new units.now medium.now ≡ show_on_record held.old units.now medium.now reply.now }
 {
     let Some(mut state) = state_from(held.flat) else {
-        return Shown {
-            number: 10,
-            source: 0,
-            start: 0,
-            count: 0,
-        };
+        return shown(
+            Answer::Refused {
+                why: Refusal::Record,
+            },
+            Extent::Nowhere,
+        );
     };
     let identity = Identity::from(held.given);
     let left = show_parts(identity, &mut state, units, medium, reply);

@@ -6,16 +6,18 @@ ghost use Rattle.cevents.specs.Quick.{shows_on, quick_shown, quick_left};
 use crate::packets::read_on;
 use crate::place::Place;
 use crate::quick::is_reading;
+use crecord::encode::shown;
 use crecord::record::{Flat, Given, Record, Shown};
+use machine::answer::Answer;
+use machine::show::Extent;
 
 // A read, which has no reply, goes on by a whole packet; the last one is one that leaves no residue.
 fn shows_on(given: Given, flat: Flat, blocks: u32, reply: usize) -> bool
     ensures { result ≡ shows_on given flat blocks reply }
 {
-    if reply != 0 || !is_reading(given, flat, blocks) {
-        return false;
-    }
-    64 < flat.left || flat.left == 64 && flat.residue == 64
+    reply == 0
+        && is_reading(given, flat, blocks)
+        && (64 < flat.left || flat.left == 64 && flat.residue == 64)
 }
 
 // A whole packet of a read, shown where it stands; none of any other call, and nothing is done. The place is the unit's;
@@ -30,10 +32,9 @@ pub(crate) fn quick_show(held: &mut Record, place: Place, reply: usize) -> Optio
         return None;
     }
     held.flat = read_on(flat);
-    Some(Shown {
-        number: 0,
-        source: 1,
-        start: 512 * (place.first as usize) + (flat.place as usize),
-        count: 64,
-    })
+    let start = 512 * (place.first as usize) + (flat.place as usize);
+    Some(shown(
+        Answer::Data { count: 64 },
+        Extent::Medium { start, count: 64 },
+    ))
 }

@@ -16,7 +16,7 @@ use collector::switch::switch_parts;
 use control::parts::{control_parts, reset_parts};
 use crecord::decode::state_from;
 use crecord::record::{Flat, Given, Record, Told};
-use machine::answer::Answer;
+use machine::answer::{Answer, Refusal};
 use machine::record::{Device, LogicalUnit, State};
 use usb::descriptor::Identity;
 
@@ -24,13 +24,12 @@ use usb::descriptor::Identity;
 pub(crate) fn refused() -> Told
     ensures { result ≡ answer 10 0 }
 {
-    Told {
-        number: 10,
-        count: 0,
-    }
+    Told::from(Answer::Refused {
+        why: Refusal::Record,
+    })
 }
 
-// A record of a device.
+// A record of a device. No From, which would stand in `crecord`: its conversions are of a record's parts.
 fn record_of(device: Device) -> Record
     ensures { (us : Table) (m : List ℕ) → result ≡ record_of (world device us m) }
 {
@@ -112,7 +111,7 @@ pub fn turn_control(
     let identity = Identity::from(held.given);
     let answer = control_parts(identity, &mut state, units, &mut held.part, setup, buffer);
     let told = Told::from(answer);
-    let data = told.number == 0;
+    let data = matches!(answer, Answer::Data { .. });
     if !data {
         held.flat = Flat::from(state);
     }

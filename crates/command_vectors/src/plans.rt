@@ -1,4 +1,5 @@
 // What a unit of 128 blocks has for a command block.
+// The words for what an enum of another crate names are functions: a Display would need a type of its own for each.
 use hexprint::Hex;
 use scsi::command::{Plan, block_length, plan_of};
 use scsi::page::Page;
@@ -69,6 +70,7 @@ fn block_on(out: &mut impl Write, front: u64, back: u16, protected: bool) -> io:
     planned(out, &s, protected)
 }
 
+// Two names for `block_on`, so that not every row below has a `true` or a `false` at its end.
 fn block(out: &mut impl Write, front: u64, back: u16) -> io::Result<()> {
     block_on(out, front, back, false)
 }

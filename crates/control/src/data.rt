@@ -63,7 +63,7 @@ pub(crate) fn get_configuration(state: State, buffer: &mut [u8]) -> Answer
     }
 }
 
-// The highest unit's number.
+// The highest unit's number. That there are no more than four was checked by `control_parts`; in more it would not be a byte.
 pub(crate) fn get_max_lun(units: &[LogicalUnit], state: State, buffer: &mut [u8]) -> Answer
     requires { length units.now ≤ 4 }
     ensures { (w : World) → w.units ≡ units.now → out result (in_state w state) buffer.new ≡ perform Request.GetMaxLun (in_state w state) buffer.old }

@@ -106,7 +106,8 @@ fn stage_from(stage: u8, place: u32, left: u32, value: u32, extra: u32) -> Optio
     }
 }
 
-// None, where the numbers stand for no state. Whether the table has the unit, `fits` asks.
+// None, where the numbers stand for no state; no TryFrom, whose error would have nothing to say. Whether the table has the
+// unit, `fits` asks.
 pub fn state_from(flat: Flat) -> Option<State>
     ensures { result ≡ (when decodes flat then Some (state_from flat) else None) }
 {

@@ -56,6 +56,7 @@ fn numbered(stage: u8, place: u32, left: u32, value: u32, extra: u32) -> Numbers
     }
 }
 
+// A step of the From below, and no conversion that others ask for.
 fn numbers_of(stage: Stage) -> Numbers
     ensures { result ≡ numbers_of stage }
 {
@@ -150,6 +151,7 @@ fn start_of(at: Extent) -> usize
     }
 }
 
+// Of an answer and a place, so that it is no From.
 pub fn shown(ending: Answer, at: Extent) -> Shown
     ensures { result ≡ shown_as (number_of ending) (count_of ending) at }
 {

@@ -28,6 +28,7 @@ impl fmt::Display for Hex<'_> {
 pub fn line<W: Write>(out: &mut W, name: &str, packet: Packet) -> io::Result<()>
     ensures { OnOk result (Appends (W.contents out.old) (W.contents out.new) (name.now ++ hexes (take packet.len packet.bytes) ++ newline)) }
 {
+    // A length of more than 64 counts as 64, where `as_slice` has no bytes.
     let held = &packet.bytes[..packet.len.min(64)];
     writeln!(out, "{name}{}", Hex(held))
 }

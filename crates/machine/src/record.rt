@@ -66,6 +66,6 @@ pub struct State {
 pub struct Device {
     pub identity: Identity,
     pub state: State,
-    // The block being gathered: zeros where none is.
+    // The block being gathered: zeros where none is. How much of it is held the stage says, and C's record has it as an array.
     pub part: [u8; 512],
 }

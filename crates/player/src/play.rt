@@ -18,7 +18,8 @@ use usb::descriptor::Identity;
 // 64 blocks.
 pub const MEDIUM: usize = 32768;
 
-// The text's room, which always suffices (claim `TextFits`): the heading, and 1,024 lines of at most 207 bytes.
+// The text's room, which always suffices (claim `TextFits`): the heading, and 1,024 lines of at most 207 bytes. An array and no
+// String: the claim is of a room that cannot run out.
 pub const ROOM: usize = 211980;
 
 // The events of a well-formed recording, so many, from a record, its table and the medium on.
@@ -76,7 +77,7 @@ fn played(
         Ok(device) => device,
         Err(why) => {
             let number = why.number();
-            text.refusal(number);
+            text.refusal(number as usize);
             return text.at;
         }
     };
@@ -86,7 +87,7 @@ fn played(
     text.at
 }
 
-// All that is printed of a malformed recording.
+// All that is printed of a malformed recording: document 01's number of it.
 fn malformed(text: &mut [u8; ROOM]) -> usize
     ensures { Wrote text.old 0 (refused_line 16) text.new result }
 {

@@ -1,5 +1,6 @@
 // The printed text, written piece by piece into a lent buffer. The public methods look first: without room for a line
-// nothing is written, and the place stays.
+// nothing is written, and the place stays. Numbers go by `digits`, as the drive's own do: by the library's formatting the text of a
+// number would need a law of its own.
 ghost use Rattle.std.specs.Prelude.{◌≡◌, ◌+◌, ◌*◌, ◌≤◌, ◌<◌, leb, length};
 ghost use Rattle.wire.specs.Choice.{◌and◌};
 ghost use Rattle.printout.specs.Writing.{Wrote};
@@ -12,7 +13,8 @@ use wire::slices::put;
 // The longest line.
 const MOST_LINE: usize = 207;
 
-// A lent buffer, and the place behind what was written into it.
+// A lent buffer, and the place behind what was written into it. How much room is asked for differs from piece to piece, so that
+// it stands with each and is no invariant; and so does that the buffer stays the one that was lent.
 #[derive(Drop)]
 pub struct Text<'a> {
     pub buffer: &'a mut [u8],
@@ -94,13 +96,13 @@ impl<'a> Text<'a> {
         self.hexes(&lent[..n.min(lent.len())]);
     }
 
-    fn refused(&mut self, number: u32)
+    fn refused(&mut self, number: usize)
         requires { self.old.at + 201 ≤ length self.old.buffer.now }
         ensures same { self.new.buffer.ghost_name ≡ self.old.buffer.ghost_name }
         ensures wrote { Wrote self.old.buffer.now self.old.at (refused_text number) self.new.buffer.now self.new.at }
     {
         self.append(b"refused ");
-        self.numeral(number as usize);
+        self.numeral(number);
     }
 
     #[tactic(auto, unfolding(crate::specs::Print::answer_text))]
@@ -115,7 +117,7 @@ impl<'a> Text<'a> {
             Answer::Nak => self.append(b"nak"),
             Answer::Stall => self.append(b"stall"),
             Answer::Silent => self.append(b"silent"),
-            Answer::Refused { why } => self.refused(why.number()),
+            Answer::Refused { why } => self.refused(why.number() as usize),
         }
     }
 
@@ -147,7 +149,7 @@ impl<'a> Text<'a> {
     }
 
     // All that is printed where nothing is run.
-    pub fn refusal(&mut self, number: u32)
+    pub fn refusal(&mut self, number: usize)
         ensures same { self.new.buffer.ghost_name ≡ self.old.buffer.ghost_name }
         ensures wrote { Wrote self.old.buffer.now self.old.at (fitting (has_room self.old.buffer.now self.old.at) (refused_line number)) self.new.buffer.now self.new.at }
     {

@@ -15,6 +15,7 @@ fn entries_formed(s: &[u8], count: usize, units: usize) -> bool
     ensures { result ≡ formed units count (drop 2 s.now) (drop (2 + 4 * count) s.now) }
 {
     let mut head = Head::new(s, 2, 2 + 4 * count);
+    // As many as the recording says, up to the first that is malformed.
     for _ in 0..count {
         if head.next(units).kind.is_none() {
             return false;
@@ -35,6 +36,7 @@ pub fn count_of(s: &[u8]) -> usize
 pub fn is_formed(s: &[u8], units: usize) -> bool
     ensures { result ≡ is_formed units s.now }
 {
+    // First: only then has it a count.
     if s.len() < 2 || MOST_BYTES < s.len() {
         return false;
     }

@@ -25,7 +25,8 @@ impl<'a> Head<'a> {
         }
     }
 
-    // The event under the head, where the collector has so many units. The head moves on to the next place.
+    // The event under the head, where the collector has so many units. The head moves on to the next place. It is no Iterator,
+    // since it takes the number of units.
     pub fn next(&mut self, units: usize) -> Reading
         ensures read { numbered result ≡ numbered (read_at units self.old.recording.now self.old.entry self.old.body) }
         ensures recording { self.new.recording ≡ self.old.recording }

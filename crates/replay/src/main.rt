@@ -75,10 +75,10 @@ fn main(rt: HostRuntime) -> io::Result<()> {
     let first = rt.arg(1, &mut argument).unwrap_or(0);
     let sheet = &mut [part(0, 128)];
     over(&rt, &mut out, &argument[..first], sheet, &mut [0; 65536])?;
+    // By its number, since `arg` tells of one that is too long, which counts as empty.
     for i in 2.. {
         let length = match rt.arg(i, &mut argument) {
             Ok(length) => length,
-            // A name that is longer counts as empty.
             Err(FillError::TooLong) => 0,
             Err(FillError::NotPresent) => break,
         };

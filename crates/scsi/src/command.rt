@@ -25,7 +25,7 @@ pub enum Plan {
     Write { block: u32, count: u16 },
 }
 
-// How many bytes of a command block its code needs.
+// How many bytes of a command block its code needs: of an unknown one its code alone.
 pub fn block_length(code: u8) -> u8
     ensures { result ≡ block_length code }
 {

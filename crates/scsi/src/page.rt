@@ -18,7 +18,8 @@ pub enum Page {
     Identification,
 }
 
-// The page with this code, which is a byte of a command block and 32 bits of C's record; none, where no page is served.
+// The page with this code, which is a byte of a command block and 32 bits of C's record; none, where no page is served,
+// which is no error with something to say.
 pub fn page_of(code: u32) -> Option<Page>
     ensures { result ≡ page_of code }
 {

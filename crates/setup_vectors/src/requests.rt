@@ -1,4 +1,5 @@
 // The control requests of document 01, and some that stall.
+// The words for what an enum of another crate names are functions: a Display would need a type of its own for each.
 use hexprint::Hex;
 use std::io;
 use std::io::Write;

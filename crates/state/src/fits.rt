@@ -65,6 +65,7 @@ pub fn in_fits(size: u64, place: u32, left: u32, announced: u32, residue: u32) -
 fn task_fits(task: Task, units: &[LogicalUnit]) -> bool
     ensures { result ≡ task_fits units.now task }
 {
+    // First, since beyond the table `unit_at` gives a unit without blocks.
     if units.len() <= (task.lun as usize) {
         return false;
     }

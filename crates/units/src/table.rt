@@ -13,6 +13,7 @@ fn follow(units: &[LogicalUnit]) -> bool
 {
     let mut next = 0;
     for unit in units {
+        // The sum goes on only over parts that fit.
         if unit.first != next || !size_fits(unit.blocks) {
             return false;
         }
@@ -48,6 +49,7 @@ pub fn medium_fits(units: &[LogicalUnit], length: usize) -> bool
     let mut rest = length;
     for unit in units {
         let size = 512 * (unit.blocks as usize);
+        // A sum of any table's sizes might be too large for its type; a rest is not.
         if rest < size {
             return false;
         }

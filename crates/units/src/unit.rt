@@ -19,7 +19,8 @@ pub fn switch_fits(switch: u8) -> bool
     switch <= 1
 }
 
-// What stands for a unit beyond the table: it has no blocks.
+// What stands for a unit beyond the table: it has no blocks. It is no Option, since the definition `unit_at` gives a unit at any
+// number.
 pub fn no_unit() -> LogicalUnit
     ensures { result ≡ no_unit }
 {

@@ -146,7 +146,7 @@ impl Setup {
     }
 }
 
-// The endpoint that the device has under this index, if any.
+// The endpoint that the device has under this index, if any; no TryFrom, whose error would have nothing to say.
 fn endpoint_of(index: u16) -> Option<Endpoint>
     ensures { result ≡ endpoint_of index }
 {

@@ -3,7 +3,7 @@ ghost use Rattle.std.specs.Prelude.{◌≡◌, ◌-◌, ◌/◌, ◌<◌, take};
 ghost use Rattle.wire.specs.Numbers.{decimal, decimal_value};
 
 // The last twelve decimal digits of n: all of them below 10^12.
-// Two at a time, so that any n takes six divisions and no remainder (document 02, A3).
+// Two at a time and from the end, so that any n takes six divisions and no remainder (document 02, A3).
 pub fn digits(n: u64) -> [u8; 12]
     ensures { result ≡ decimal 12 n }
 {

@@ -25,7 +25,7 @@ impl Packet {
     }
 }
 
-// The packet that holds the bytes of s; more than 64 are no packet, and give the empty one.
+// The packet that holds the bytes of s; more than 64 are no packet, and give the empty one, as its definition does.
 pub fn packet_of(s: &[u8]) -> Packet
     ensures { result ≡ packet_of s.now }
 {

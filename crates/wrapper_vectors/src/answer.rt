@@ -4,17 +4,31 @@ use hexprint::Hex;
 use std::io;
 use std::io::Write;
 
-// A whole line: a name, and the bytes that were written or the refusal.
+// A whole line: a name, and what is shown of a result or the refusal.
+pub(crate) fn ended<W: Write, T: Drop, F: FnOnce(&mut W, T) -> io::Result<()>>(
+    out: &mut W,
+    name: &str,
+    ending: Result<T, Refused>,
+    show: F,
+) -> io::Result<()>
+    requires { F.IsAlwaysCallable show }
+{
+    write!(out, "{name}")?;
+    match ending {
+        Ok(value) => show(out, value)?,
+        Err(refused) => write!(out, " {refused}")?,
+    }
+    writeln!(out)
+}
+
+// The bytes that were written.
 pub(crate) fn written(
     out: &mut impl Write,
     name: &str,
     answer: Result<usize, Refused>,
     buffer: &[u8],
 ) -> io::Result<()> {
-    write!(out, "{name}")?;
-    match answer {
-        Ok(count) => write!(out, "{}", Hex(&buffer[..count.min(buffer.len())]))?,
-        Err(refused) => write!(out, " {refused}")?,
-    }
-    writeln!(out)
+    ended(out, name, answer, |out, count| {
+        write!(out, "{}", Hex(&buffer[..count.min(buffer.len())]))
+    })
 }

@@ -1,5 +1,6 @@
 // The command wrapper of source document 002's listing: Read Capacity, tag 826A6008.
-use crate::answer::written;
+// The words for what an enum of another crate names are functions: a Display would need a type of its own for each.
+use crate::answer::{ended, written};
 use bot::cbw::{Cbw, Header, read_cbw, write_cbw};
 use hexprint::Hex;
 use std::io;
@@ -23,12 +24,7 @@ fn fields(out: &mut impl Write, cbw: Cbw) -> io::Result<()> {
 }
 
 fn read(out: &mut impl Write, name: &str, s: &[u8]) -> io::Result<()> {
-    write!(out, "{name}")?;
-    match read_cbw(s) {
-        Ok(cbw) => fields(out, cbw)?,
-        Err(refused) => write!(out, " {refused}")?,
-    }
-    writeln!(out)
+    ended(out, name, read_cbw(s), |out, value| fields(out, value))
 }
 
 fn read_capacity(lun: u8) -> Cbw {

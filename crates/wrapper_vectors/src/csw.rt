@@ -1,5 +1,6 @@
 // The status wrapper of the bench sheet: tag 826A6008 (source document 002), residue 0, passed.
-use crate::answer::written;
+// The words for what an enum of another crate names are functions: a Display would need a type of its own for each.
+use crate::answer::{ended, written};
 use bot::csw::{Csw, Status, read_csw, write_csw};
 use hexprint::Hex;
 use std::io;
@@ -24,12 +25,7 @@ fn fields(out: &mut impl Write, csw: Csw) -> io::Result<()> {
 }
 
 fn read(out: &mut impl Write, name: &str, s: &[u8]) -> io::Result<()> {
-    write!(out, "{name}")?;
-    match read_csw(s) {
-        Ok(csw) => fields(out, csw)?,
-        Err(refused) => write!(out, " {refused}")?,
-    }
-    writeln!(out)
+    ended(out, name, read_csw(s), |out, value| fields(out, value))
 }
 
 pub(crate) fn run(out: &mut impl Write) -> io::Result<()> {

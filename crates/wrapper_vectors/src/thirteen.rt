@@ -1,4 +1,5 @@
 // The thirteen cases, in the order and with the names of BOT 6.7.
+// The words for what an enum of another crate names are functions: a Display would need a type of its own for each.
 use cases::{Ending, Halt, Pipe, Transfer, case_of};
 use hexprint::Hex;
 use std::io;

@@ -29,6 +29,6 @@ returns c =
     let n : 512 * a.place.first + h.flat.place + 64 - (512 * a.place.first + h.flat.place) ≡ 64 = add-sub_cancel_left _ _ in
     record {
       answers = λ t e us v.
-          simp (some-is _ _ e, c.read_on-held.ensures, c.put_packet.ensures, n) (sym (quick-in h.given h.flat us a.medium.now a.place v a.buffer.now w h.part));
+          simp (some-is _ _ e, c.from.ensures, c.read_on-held.ensures, c.put_packet.ensures, n) (sym (quick-in h.given h.flat us a.medium.now a.place v a.buffer.now w h.part));
       keeps = λ e. no_other _ _ refl e;
     }

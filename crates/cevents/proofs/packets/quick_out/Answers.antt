@@ -22,7 +22,7 @@ returns-then-flat-lt512 c =
     let h = a.held.now in
     let w = c.gathers.ensures c.if-not-gathers.false in
     record {
-      answers = λ t e us v. simp (some-is _ _ e, c.moved_on-held.ensures, c.put_packet.ensures) (sym (quick-part h.given h.flat us a.medium.now a.place v a.packet.now h.part w c.if-flat-lt512.true));
+      answers = λ t e us v. simp (some-is _ _ e, c.from-ack.ensures, c.moved_on-held.ensures, c.put_packet.ensures) (sym (quick-part h.given h.flat us a.medium.now a.place v a.packet.now h.part w c.if-flat-lt512.true));
       keeps = λ e. no_other _ _ refl e;
     }
 
@@ -35,7 +35,7 @@ returns-then-flat-eq1 c =
     let l : length h.part ≡ 512 = search rules in
     record {
       answers = λ t e us v.
-          simp (some-is _ _ e, c.moved_on-held-then-flat-eq1.ensures, c.wipe.ensures, c.put.ensures.1, c.put_packet.ensures)
+          simp (some-is _ _ e, c.from-ack.ensures, c.moved_on-held-then-flat-eq1.ensures, c.wipe.ensures, c.put.ensures.1, c.put_packet.ensures)
           (sym (quick-end h.given h.flat us a.medium.now a.place v a.packet.now h.part w c.if-flat-eq1.true (w.last c.if-flat-eq1.true) l (λ x. omega arith)));
       keeps = λ e. no_other _ _ refl e;
     }
@@ -66,7 +66,7 @@ returns c =
     let l : length h.part ≡ 512 = search rules in
     record {
       answers = λ t e us v.
-          simp (some-is _ _ e, c.moved_on-held-2.ensures, c.wipe.ensures, c.put.ensures.1, c.put_packet.ensures)
+          simp (some-is _ _ e, c.from-ack.ensures, c.moved_on-held-2.ensures, c.wipe.ensures, c.put.ensures.1, c.put_packet.ensures)
           (sym (quick-block h.given h.flat us a.medium.now a.place v a.packet.now h.part w (omega (arith, w.some, c.if-flat-eq1.false)) l (λ x. omega arith)));
       keeps = λ e. no_other _ _ refl e;
     }

@@ -13,7 +13,7 @@ returns c =
     let h = a.held.now in
     record {
       answers = λ t e us w.
-          simp (some-is _ _ e, c.ended-held.ensures, c.put.ensures.1, c.csw_bytes.ensures)
+          simp (some-is _ _ e, c.from.ensures, c.ended-held.ensures, c.put.ensures.1, c.csw_bytes.ensures)
           (sym (quick-status h.given h.flat us a.medium.now a.place w a.buffer.now (c.passes.ensures c.if-not-passes.false) h.part));
       keeps = λ e. no_other _ _ refl e;
     }

@@ -1,6 +1,7 @@
 -- `quick_show` meets its contract. Assumes nothing.
 use mathlib.Core.Path.{sym, ap, ◌∙◌}
 use native.Mathlib.Omega.{arith}
+use Rattle.std.specs.Prelude.{Some}
 use Rattle.wire.proofs.Cases.{both, if-true, if-false}
 use Rattle.crecord.specs.declared.record.Flat as flats
 use Rattle.crecord.specs.Flat.{rec}
@@ -26,7 +27,7 @@ read_on-held-requires c =
 
 pub returns-clause-shown : goal.returns-clause-shown
 unfolding quick_shown
-returns-clause-shown c = sym (if-true _ _ _ (sym c.shows_on.ensures ∙ c.if-not-shows_on.false))
+returns-clause-shown c = ap Some c.shown.ensures ∙ sym (if-true _ _ _ (sym c.shows_on.ensures ∙ c.if-not-shows_on.false))
 
 pub returns-clause-left : goal.returns-clause-left
 unfolding quick_left

@@ -1,8 +1,11 @@
 -- `turn_control` meets its contract. Assumes nothing.
+use mathlib.Core.Path.{◌≡◌, sym, ◌∙◌}
+use mathlib.Core.Bool.{true≢false}
 use Rattle.machine.specs.Machine as machine
 use Rattle.machine.specs.Machine.{lent}
 use Rattle.cevents.proofs.Options.{was-none, was-some}
 use Rattle.cevents.proofs.Turns.{refuses, decoded, unchanged}
+use Rattle.cevents.proofs.turn.turn_control.Goals.{in-Data, in_default-matches}
 use Rattle.cevents.proofs.turn.turn_control.Goals as goal
 
 pub returns-in_default : goal.returns-in_default
@@ -24,4 +27,9 @@ returns-else-not-data c =
     λ m.
     let a = c.args in
     let s = was-some _ _ _ c.state_from.ensures _ c.in-Some.is in
-    unchanged a.held.now a.units.now a.setup.now m a.buffer.now _ _ _ _ _ _ _ _ s.0 c.from-identity.ensures s.1 (c.control_parts-answer.ensures m) c.from-told.ensures c.if-not-data.false
+    let z : c.from-told.result.number ≡ 0 =
+    elim c.match-matches.branch [
+      | in-Data w ↦ simp (c.from-told.ensures, w.in-Data.is)
+      | in_default-matches w ↦ absurd (true≢false (sym c.if-not-data.false ∙ w.matches-is))
+    ] in
+    unchanged a.held.now a.units.now a.setup.now m a.buffer.now _ _ _ _ _ _ _ _ s.0 c.from-identity.ensures s.1 (c.control_parts-answer.ensures m) c.from-told.ensures z
