@@ -5,12 +5,17 @@ use player::play::{MEDIUM, ROOM, play};
 use std::io;
 use std::io::{Read, Write};
 
+// One byte more than a recording may have, so that a longer input is seen to be longer.
+const MOST_READ: usize = 16385;
+
 fn main(rt: HostRuntime) -> io::Result<()> {
-    // One byte more than a recording may have, so that a longer input is seen to be longer.
-    let mut input = Vec::new(rt.alloc());
-    rt.stdin().take(16385).read_to_end(&mut input)?;
+    let mut input = [0; MOST_READ];
     let mut medium = [0; MEDIUM];
     let mut text = [0; ROOM];
-    let end = play(input.as_slice(), &mut medium, &mut text);
+    let mut free = &mut input[..];
+    io::copy(&mut rt.stdin().take(MOST_READ as u64), &mut free)?;
+    let left = free.len();
+    let got = MOST_READ.saturating_sub(left);
+    let end = play(&input[..got], &mut medium, &mut text);
     rt.stdout().write_all(&text[..end])
 }

@@ -1,4 +1,7 @@
 // How reading or writing a wrapper fails.
+ghost use Rattle.std.specs.Prelude.{Some};
+ghost use Rattle.wire.specs.Texts.{ascii};
+
 use std::error::Error;
 use std::fmt;
 
@@ -7,6 +10,8 @@ use std::fmt;
 pub struct Refused;
 
 impl fmt::Display for Refused {
+    ghost output = { λ _. Some (ascii "refused") };
+
     fn fmt<W: fmt::Write>(&self, f: &mut fmt::Formatter<W>) -> fmt::Result {
         f.write_str("refused")
     }

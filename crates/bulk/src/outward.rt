@@ -16,9 +16,8 @@ use machine::record::{LogicalUnit, Stage, State, Task};
 use scsi::sense::Sense;
 use state::progress::{cut_state, halt_at_end};
 use state::states::{locked_state, moved, wipe};
-use units::change::set_sense;
+use units::change::{put_sense, set_sense};
 use units::table::unit_at;
-use units::unit::with_sense;
 use wire::slices::{put, put_packet};
 
 // A broken wrapper locks the device; an accepted one sets its unit's sense.
@@ -101,7 +100,7 @@ fn on_data(
     if packet.len() != 64 {
         wipe(part);
         *state = cut_state(*state);
-        *unit = with_sense(*unit, Sense::DATA_PHASE);
+        put_sense(unit, Sense::DATA_PHASE);
         return Answer::Ack;
     }
     put_packet(part, held as usize, packet);

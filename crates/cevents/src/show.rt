@@ -6,7 +6,7 @@ use crate::place::place_in;
 use crate::showing::quick_show;
 use crate::turn::refused;
 use bulk::show::{reply_parts, show_parts};
-use crecord::decode::state_from;
+use crecord::decode::decode;
 use crecord::encode::shown;
 use crecord::record::{Flat, Record, Shown, Told};
 use machine::answer::{Answer, Refusal};
@@ -18,7 +18,7 @@ use usb::descriptor::Identity;
 fn any_show(held: &mut Record, units: &[LogicalUnit], medium: &[u8], reply: &[u8]) -> Shown
     ensures { left_shown result held.new units.now medium.now ≡ show_on_record held.old units.now medium.now reply.now }
 {
-    let Some(mut state) = state_from(held.flat) else {
+    let Some(mut state) = decode(held.flat) else {
         return shown(
             Answer::Refused {
                 why: Refusal::Record,
@@ -49,7 +49,7 @@ pub fn turn_show(held: &mut Record, units: &[LogicalUnit], medium: &[u8], reply:
 pub fn turn_reply(held: &Record, units: &[LogicalUnit], buffer: &mut [u8]) -> Told
     ensures { (m : List ℕ) → left_reply result buffer.new ≡ reply_on_record held.now units.now m buffer.old }
 {
-    let Some(state) = state_from(held.flat) else {
+    let Some(state) = decode(held.flat) else {
         return refused();
     };
     let identity = Identity::from(held.given);

@@ -14,7 +14,7 @@ use bulk::parts::{in_parts, out_parts};
 use collector::making::{make, no_device};
 use collector::switch::switch_parts;
 use control::parts::{control_parts, reset_parts};
-use crecord::decode::state_from;
+use crecord::decode::decode;
 use crecord::record::{Flat, Given, Record, Told};
 use machine::answer::{Answer, Refusal};
 use machine::record::{Device, LogicalUnit, State};
@@ -67,7 +67,7 @@ fn decoded<F: FnMut(Identity, &mut State, &mut [u8; 512]) -> Answer>(
     ensures refused { decodes held.old.flat ≡ false → (result ≡ answer 10 0) × (held.new ≡ held.old) × (event.new ≡ event.old) }
     ensures ran { decodes held.old.flat ≡ true → Ran (λ i s p a t q. F.step event.old i s p a t q event.new) held.old result held.new }
 {
-    let Some(mut state) = state_from(held.flat) else {
+    let Some(mut state) = decode(held.flat) else {
         return refused();
     };
     let identity = Identity::from(held.given);
@@ -89,7 +89,7 @@ pub fn turn_reset(held: &mut Record, units: &mut [LogicalUnit]) -> Told
 pub fn turn_switch(held: &Record, units: &mut [LogicalUnit], position: u8, lun: u8) -> Told
     ensures { (m : List ℕ) → left result held.now units.new m [] ≡ on_record held.now units.old m (set_switch position lun) }
 {
-    let Some(state) = state_from(held.flat) else {
+    let Some(state) = decode(held.flat) else {
         return refused();
     };
     let identity = Identity::from(held.given);
@@ -105,7 +105,7 @@ pub fn turn_control(
 ) -> Told
     ensures { (m : List ℕ) → left result held.new units.new m buffer.new ≡ on_record held.old units.old m (machines.control setup.now buffer.old) }
 {
-    let Some(mut state) = state_from(held.flat) else {
+    let Some(mut state) = decode(held.flat) else {
         return refused();
     };
     let identity = Identity::from(held.given);

@@ -34,15 +34,57 @@ fn is_position(value: u32, extra: u32) -> bool
 }
 
 // A page is known by its code.
-fn page_stage(code: u32, extra: u32, place: u32, left: u32) -> Option<Stage>
-    ensures { result ≡ (when is_page code extra then Some (page_stage (page_of code) place left) else None) }
+fn is_page(code: u32, extra: u32) -> bool
+    ensures { result ≡ is_page code extra }
 {
-    let page = page_of(code)?;
-    (extra == 0).then_some(Stage::ReplyIn {
-        reply: Reply::Page(page),
-        place,
-        left,
-    })
+    match page_of(code) {
+        None => false,
+        Some(_) => extra == 0,
+    }
+}
+
+fn page_stage(code: u32, place: u32, left: u32) -> Stage
+    ensures { result ≡ page_stage (page_of code) place left }
+{
+    match page_of(code) {
+        None => Stage::Ready,
+        Some(page) => Stage::ReplyIn {
+            reply: Reply::Page(page),
+            place,
+            left,
+        },
+    }
+}
+
+// It takes the numbers one by one, so that they need not be in memory for it.
+fn stage_decodes(stage: u8, place: u32, left: u32, value: u32, extra: u32) -> bool
+    ensures { result ≡ (form_of stage).has (numbers stage place left value extra) }
+{
+    match stage {
+        0 => no_numbers(place, left, value, extra),
+        1 => extra == 0,
+        2 => no_value(value, extra),
+        3 => value < 0x1000000,
+        4 => no_value(value, extra),
+        5 => is_position(value, extra),
+        6 => extra == 0,
+        7 => no_numbers(place, left, value, extra),
+        8 => no_numbers(place, left, value, extra),
+        9 => no_numbers(place, left, value, extra),
+        10 => is_page(value, extra),
+        _ => false,
+    }
+}
+
+// Whether the numbers stand for a state.
+pub fn decodes(flat: Flat) -> bool
+    ensures { result ≡ decodes flat }
+{
+    let unknown = 15 < flat.flags;
+    if unknown {
+        return false;
+    }
+    stage_decodes(flat.stage, flat.place, flat.left, flat.value, flat.extra)
 }
 
 // A reply's sense stands in two numbers: its bytes, the key in the lowest, and its information.
@@ -58,65 +100,60 @@ fn sense_from(value: u32, extra: u32) -> Sense
     }
 }
 
-// None, where the numbers stand for no stage. It takes them one by one, so that they need not be in memory for it.
-fn stage_from(stage: u8, place: u32, left: u32, value: u32, extra: u32) -> Option<Stage>
-    ensures { result ≡ (when (form_of stage).has (numbers stage place left value extra) then Some ((form_of stage).stage (numbers stage place left value extra)) else None) }
+fn stage_from(stage: u8, place: u32, left: u32, value: u32, extra: u32) -> Stage
+    ensures { result ≡ (form_of stage).stage (numbers stage place left value extra) }
 {
     match stage {
-        0 => no_numbers(place, left, value, extra).then_some(Stage::Ready),
-        1 => (extra == 0).then_some(Stage::DataOut {
+        0 => Stage::Ready,
+        1 => Stage::DataOut {
             block: place,
             left,
             held: value,
-        }),
-        2 => no_value(value, extra).then_some(Stage::DataIn { place, left }),
-        3 => (value < 0x1000000).then_some(Stage::ReplyIn {
+        },
+        2 => Stage::DataIn { place, left },
+        3 => Stage::ReplyIn {
             reply: Reply::Sense(sense_from(value, extra)),
             place,
             left,
-        }),
-        4 => no_value(value, extra).then_some(Stage::ReplyIn {
+        },
+        4 => Stage::ReplyIn {
             reply: Reply::Inquiry,
             place,
             left,
-        }),
-        5 => is_position(value, extra).then_some(Stage::ReplyIn {
+        },
+        5 => Stage::ReplyIn {
             reply: Reply::ModeSense {
                 protected: value == 1,
             },
             place,
             left,
-        }),
-        6 => (extra == 0).then_some(Stage::ReplyIn {
+        },
+        6 => Stage::ReplyIn {
             reply: Reply::Capacity { blocks: value },
             place,
             left,
-        }),
-        7 => no_numbers(place, left, value, extra).then_some(Stage::StatusDue {
+        },
+        7 => Stage::StatusDue {
             status: Status::Passed,
-        }),
-        8 => no_numbers(place, left, value, extra).then_some(Stage::StatusDue {
+        },
+        8 => Stage::StatusDue {
             status: Status::Failed,
-        }),
-        9 => no_numbers(place, left, value, extra).then_some(Stage::StatusDue {
+        },
+        9 => Stage::StatusDue {
             status: Status::PhaseError,
-        }),
-        10 => page_stage(value, extra, place, left),
-        _ => None,
+        },
+        10 => page_stage(value, place, left),
+        _ => Stage::Ready,
     }
 }
 
-// None, where the numbers stand for no state; no TryFrom, whose error would have nothing to say. Whether the table has the
-// unit, `fits` asks.
-pub fn state_from(flat: Flat) -> Option<State>
-    ensures { result ≡ (when decodes flat then Some (state_from flat) else None) }
+// The state that the numbers stand for; where they stand for none, some state, as its definition has it. Whether the table has
+// the unit, `fits` asks.
+pub fn state_from(flat: Flat) -> State
+    ensures { result ≡ state_from flat }
 {
-    let unknown = 15 < flat.flags;
-    if unknown {
-        return None;
-    }
-    let stage = stage_from(flat.stage, flat.place, flat.left, flat.value, flat.extra)?;
-    Some(State {
+    let stage = stage_from(flat.stage, flat.place, flat.left, flat.value, flat.extra);
+    State {
         address: flat.address,
         configured: flat.flags % 2 == 1,
         link: Link {
@@ -131,7 +168,18 @@ pub fn state_from(flat: Flat) -> Option<State>
                 residue: flat.residue,
             },
         },
-    })
+    }
+}
+
+// The same, but none where the numbers stand for no state; no TryFrom, whose error would have nothing to say.
+pub fn decode(flat: Flat) -> Option<State>
+    ensures { result ≡ (when decodes flat then Some (state_from flat) else None) }
+{
+    if decodes(flat) {
+        Some(state_from(flat))
+    } else {
+        None
+    }
 }
 
 impl From<Given> for Identity {

@@ -5,8 +5,9 @@ ghost use Rattle.std.specs.Prelude.{Some, ◌++◌, take, OnOk};
 ghost use Rattle.std.specs.Io.KnownBytes.{Appends};
 ghost use Rattle.printout.specs.Print.{hexes, newline};
 
+use printout::print::hex;
 use std::io::Write;
-use std::{fmt, io};
+use std::{fmt, io, str};
 use wire::packet::Packet;
 
 // Displays as two digits for each byte, each byte after a space.
@@ -18,7 +19,12 @@ impl fmt::Display for Hex<'_> {
 
     fn fmt<W: fmt::Write>(&self, f: &mut fmt::Formatter<W>) -> fmt::Result {
         for &b in self.0 {
-            write!(f, " {b:02X}")?;
+            // In one piece, since a stream without a buffer takes each piece by itself. A space and digits are UTF-8.
+            let text = hex(b);
+            let Ok(text) = str::from_utf8(&text) else {
+                return Err(fmt::Error);
+            };
+            f.write_str(text)?;
         }
         Ok(())
     }

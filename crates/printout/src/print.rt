@@ -1,7 +1,7 @@
 // The printed text, written piece by piece into a lent buffer. The public methods look first: without room for a line
 // nothing is written, and the place stays. Numbers go by `digits`, as the drive's own do: by the library's formatting the text of a
 // number would need a law of its own.
-ghost use Rattle.std.specs.Prelude.{◌≡◌, ◌+◌, ◌*◌, ◌≤◌, ◌<◌, leb, length};
+ghost use Rattle.std.specs.Prelude.{◌≡◌, ◌+◌, ◌*◌, ◌/◌, ◌%◌, ◌≤◌, ◌<◌, [], ◌∷◌, leb, length};
 ghost use Rattle.wire.specs.Choice.{◌and◌};
 ghost use Rattle.printout.specs.Writing.{Wrote};
 ghost use Rattle.printout.specs.Print.{has_room, fitting, width_of, hex_digit, hexes, numeral, data_text, refused_text, answer_text, line, heading, refused_line};
@@ -40,6 +40,13 @@ fn hex_digit(d: u8) -> u8
     if d < 10 { b'0' + d } else { b'A' - 10 + d }
 }
 
+// A byte as it is printed: a space, and two digits in upper case.
+pub fn hex(b: u8) -> [u8; 3]
+    ensures { result ≡ 32 ∷ hex_digit (b / 16) ∷ hex_digit (b % 16) ∷ [] }
+{
+    [b' ', hex_digit(b / 16), hex_digit(b % 16)]
+}
+
 impl<'a> Text<'a> {
     // Nothing is written yet.
     pub fn new(buffer: &'a mut [u8]) -> Text<'a>
@@ -74,7 +81,7 @@ impl<'a> Text<'a> {
         ensures wrote { Wrote self.old.buffer.now self.old.at (hexes s.now) self.new.buffer.now self.new.at }
     {
         for &x in s {
-            self.append(&[b' ', hex_digit(x / 16), hex_digit(x % 16)]);
+            self.append(&hex(x));
         }
     }
 

@@ -15,7 +15,7 @@ use Rattle.bulk.proofs.outward.on_data.Goals as goal
 pub returns-then-packet-ne64 : goal.returns-then-packet-ne64
 unfolding on_data cut_short cut_state when◌then◌else◌
 returns-then-packet-ne64 c =
-    λ i. simp (ne_eqb _ _ c.if-packet-ne64.true, c.cut_state.ensures, c.wipe.ensures, c.with_sense.ensures)
+    λ i. simp (ne_eqb _ _ c.if-packet-ne64.true, c.cut_state.ensures, c.wipe.ensures, c.put_sense.ensures)
 
 pub returns-then-held-lt512 : goal.returns-then-held-lt512
 unfolding on_data gathered gathered_state when◌then◌else◌

@@ -5,16 +5,16 @@ use Rattle.cevents.proofs.turn.decoded.Goals as goal
 
 pub returns-in_default-clause-ran : goal.returns-in_default-clause-ran
 returns-in_default-clause-ran g c =
-    λ d. let n = was-none _ _ _ c.state_from.ensures c.in_default.is in search (d, n, rules)
+    λ d. let n = was-none _ _ _ c.decode.ensures c.in_default.is in search (d, n, rules)
 
 pub returns-clause-refused : goal.returns-clause-refused
 returns-clause-refused g c =
-    λ d. let s = was-some _ _ _ c.state_from.ensures _ c.in-Some.is in let k = s.0 in search (d, k, rules)
+    λ d. let s = was-some _ _ _ c.decode.ensures _ c.in-Some.is in let k = s.0 in search (d, k, rules)
 
 pub returns-clause-ran : goal.returns-clause-ran
 returns-clause-ran g c =
     λ d.
-    let s = was-some _ _ _ c.state_from.ensures _ c.in-Some.is in
+    let s = was-some _ _ _ c.decode.ensures _ c.in-Some.is in
     record {
       identity = _;
       state = _;

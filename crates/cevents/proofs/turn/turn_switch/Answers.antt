@@ -13,11 +13,11 @@ unfolding lent
 returns-in_default c =
     λ m.
     let a = c.args in
-    simp c.refused.ensures (refuses a.held.now a.units.now m (machine.set_switch a.position a.lun) (was-none _ _ _ c.state_from.ensures c.in_default.is))
+    simp c.refused.ensures (refuses a.held.now a.units.now m (machine.set_switch a.position a.lun) (was-none _ _ _ c.decode.ensures c.in_default.is))
 
 pub returns : goal.returns
 returns c =
     λ m.
     let a = c.args in
-    let s = was-some _ _ _ c.state_from.ensures _ c.in-Some.is in
+    let s = was-some _ _ _ c.decode.ensures _ c.in-Some.is in
     decoded a.held.now a.units.now (machine.set_switch a.position a.lun) m _ _ _ _ _ _ _ _ _ _ s.0 c.from-identity.ensures s.1 (c.switch_parts.ensures a.held.now.part m) c.from.ensures (sym (ap flat_of s.1 ∙ round_trip.read_is_written a.held.now.flat s.0))

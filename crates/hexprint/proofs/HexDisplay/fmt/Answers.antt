@@ -1,9 +1,8 @@
 -- `Hex`'s display writes what it states. Assumes nothing.
-use Rattle.std.proofs.Common.{rules, get_or, refl, ap, ◌∙◌, arith, ◌<◌, length, ◌++◌, ◌∷◌, take}
+use Rattle.std.proofs.Common.{rules, refl, ap, ◌∙◌, arith, ◌<◌, length, ◌++◌, take}
 use Rattle.std.proofs.Output.{has_written_append, has_written_of_eq}
 use Rattle.printout.specs.Print.{hexes}
 use Rattle.printout.proofs.Writes.{hexes-step}
-use Rattle.hexprint.proofs.Digits.{byte-text}
 use Rattle.hexprint.proofs.HexDisplay.fmt.Goals as goal
 
 pub loop-b-init : goal.loop-b-init
@@ -16,5 +15,5 @@ loop-b-preserved g c p =
     let i = c.loop-b.b-index in
     let lt : i < length s = omega arith in
     has_written_of_eq _ _ _ _ _
-    (ap (λ t. hexes (take i s) ++ (32 ∷ t)) (byte-text (get_or s i 0) (omega arith)) ∙ hexes-step s i _ _ lt refl refl)
+    (ap (λ t. hexes (take i s) ++ t) (c.in-Ok.ensures.cases.0 ∙ c.hex-text.ensures) ∙ hexes-step s i _ _ lt refl refl)
     (has_written_append _ _ _ _ _ _ (c.loop-b.invariant p) (search rules))

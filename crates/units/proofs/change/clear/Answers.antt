@@ -13,4 +13,4 @@ pub loop-unit-preserved : goal.loop-unit-preserved
 unfolding cleared with_sense
 loop-unit-preserved c =
     let l = c.loop-unit in
-    mapped_more unsensed c.args.units.now l.units l.unit-index _ _ (omega arith) (omega arith) l.invariant c.with_sense.ensures
+    mapped_more unsensed c.args.units.now l.units l.unit-index _ _ (omega arith) (omega arith) l.invariant c.put_sense.ensures
