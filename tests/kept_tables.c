@@ -116,16 +116,20 @@ static bool is_calm(const board *board)
 }
 
 /*
- * An event that writes a sense or a switch, but finds the very one there, and so writes nothing; from 0 on, UINT32_MAX past the
- * last. Of a table without a sense: each drop of the command, each switch set to where it is, and a command that passes.
+ * Events that write a sense or a switch, but find the very one there, and so write nothing; from 0 on, UINT32_MAX past the
+ * last. Of any table, each switch set to where it is.
  */
-static uint32_t unchanging_event(board *board, unsigned event)
+static uint32_t switch_again(board *board, unsigned unit)
+{
+    return unit < board->count ? board_switch(board, table_of(board)[unit].write_switch, (uint8_t)unit) : UINT32_MAX;
+}
+
+/* Of one without a sense, each drop of the command, and a command that passes. */
+static uint32_t no_sense_again(board *board, unsigned event)
 {
     static const uint8_t ready[31] = "USBC\x01\x02\x03\x04\0\0\0\0\0\0\x06" TEST_UNIT_READY;
 
-    if (event < board->count)
-        return board_switch(board, table_of(board)[event].write_switch, (uint8_t)event);
-    switch (event - board->count) {
+    switch (event) {
     case 0:
         return board_reset(board);
     case 1:
@@ -135,10 +139,16 @@ static uint32_t unchanging_event(board *board, unsigned event)
     case 3:
         return board_control(board, MASS_STORAGE_RESET);
     case 4:
-        return board->record.stage == COLLECTOR_STAGE_READY ? board_send(board, ready, sizeof ready) : board_ask(board);
+        return board->record.stage == COLLECTOR_STAGE_READY ? board_send(board, ready, sizeof ready) : UINT32_MAX;
     default:
         return UINT32_MAX;
     }
+}
+
+/* Of one whose unit has it already, the sense of data that is cut. */
+static uint32_t cut_again(board *board, unsigned event)
+{
+    return event == 0 ? board_send(board, board->medium, 4) : UINT32_MAX;
 }
 
 /* Each event is answered as on the plain table, and leaves the same record, medium and buffer. */
@@ -164,8 +174,9 @@ static void expect_kept(const board *reached)
     uint32_t answer;
 
     expect_unwritten(reached, event_of);
+    expect_unwritten(reached, switch_again);
     if (is_calm(reached))
-        expect_unwritten(reached, unchanging_event);
+        expect_unwritten(reached, no_sense_again);
     board fixed = with_fixed_table(reached);
     for (answer = COLLECTOR_DATA; answer == COLLECTOR_DATA;)
         answer = board_ask(&fixed);
@@ -183,6 +194,19 @@ static void expect_written(const board *configured, uint8_t unit)
     board_status(&board, 1, 0);
     board.record.stage = STAGES;
     board_refused(&board);
+}
+
+/* A Write whose data is cut, to a unit that has the sense of that already. */
+static void expect_cut(const board *configured, uint8_t unit)
+{
+    board board = *configured;
+
+    board_reach(&board, unit, COLLECTOR_STAGE_DATA_OUT);
+    board.units[unit].sense_key = 0x0B;
+    board.units[unit].sense_asc = 0x4B;
+    board.units[unit].sense_ascq = 0x00;
+    board.units[unit].sense_information = 0;
+    expect_unwritten(&board, cut_again);
 }
 
 /* A making that is refused: as 10, 11 and 15. */
@@ -224,6 +248,7 @@ static void in_each_stage(size_t count, bool senses)
         expect_kept(&board);
     }
     expect_written(&configured, (uint8_t)(count - 1));
+    expect_cut(&configured, (uint8_t)(count - 1));
 }
 
 void tables_kept(void)

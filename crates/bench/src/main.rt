@@ -1,6 +1,8 @@
 // The bench: reads a recording from standard input, plays it, writes what is printed to standard output.
 #![tactic(auto)]
 
+ghost use Rattle.std.specs.Prelude.{◌≤◌, IfOk};
+
 use player::play::{MEDIUM, ROOM, play};
 use std::io;
 use std::io::{Read, Write};
@@ -8,14 +10,30 @@ use std::io::{Read, Write};
 // One byte more than a recording may have, so that a longer input is seen to be longer.
 const MOST_READ: usize = 16385;
 
-fn main(rt: HostRuntime) -> io::Result<()> {
-    let mut input = [0; MOST_READ];
+// Each of the two has a frame of its own, so that the stack need not hold what reading takes beside what playing takes.
+
+// Puts the input's bytes at the start of an array and returns how many.
+#[inline(never)]
+fn load(from: &mut impl Read, input: &mut [u8; MOST_READ]) -> io::Result<usize>
+    ensures { IfOk result (λ n. n ≤ MOST_READ) }
+{
+    let mut free = &mut input[..];
+    io::copy(&mut from.take(MOST_READ as u64), &mut free)?;
+    let left = free.len();
+    Ok(MOST_READ.saturating_sub(left))
+}
+
+// Plays a recording and writes what is printed of it.
+#[inline(never)]
+fn replay(out: &mut impl Write, recording: &[u8]) -> io::Result<()> {
     let mut medium = [0; MEDIUM];
     let mut text = [0; ROOM];
-    let mut free = &mut input[..];
-    io::copy(&mut rt.stdin().take(MOST_READ as u64), &mut free)?;
-    let left = free.len();
-    let got = MOST_READ.saturating_sub(left);
-    let end = play(&input[..got], &mut medium, &mut text);
-    rt.stdout().write_all(&text[..end])
+    let end = play(recording, &mut medium, &mut text);
+    out.write_all(&text[..end])
+}
+
+fn main(rt: HostRuntime) -> io::Result<()> {
+    let mut input = [0; MOST_READ];
+    let got = load(&mut rt.stdin(), &mut input)?;
+    replay(&mut rt.stdout(), &input[..got])
 }
