@@ -106,7 +106,7 @@ static uint32_t event_of(board *board, unsigned event)
     }
 }
 
-/* No unit has a sense; each has a key. */
+/* No unit has a sense: every sense has a key other than 0. */
 static bool is_calm(const board *board)
 {
     for (size_t unit = 0; unit < board->count; unit++)
@@ -116,15 +116,17 @@ static bool is_calm(const board *board)
 }
 
 /*
- * Events that write a sense or a switch, but find the very one there, and so write nothing; from 0 on, UINT32_MAX past the
- * last. Of any table, each switch set to where it is.
+ * The next three are events that set a sense or a switch, but find the very one there, and so write nothing; each from 0 on,
+ * UINT32_MAX past the last.
  */
+
+/* Each switch, set to where it is. */
 static uint32_t switch_again(board *board, unsigned unit)
 {
     return unit < board->count ? board_switch(board, table_of(board)[unit].write_switch, (uint8_t)unit) : UINT32_MAX;
 }
 
-/* Of one without a sense, each drop of the command, and a command that passes. */
+/* Where no unit has a sense: each drop of the command, and in the ready stage a command that passes. */
 static uint32_t no_sense_again(board *board, unsigned event)
 {
     static const uint8_t ready[31] = "USBC\x01\x02\x03\x04\0\0\0\0\0\0\x06" TEST_UNIT_READY;
@@ -145,7 +147,7 @@ static uint32_t no_sense_again(board *board, unsigned event)
     }
 }
 
-/* Of one whose unit has it already, the sense of data that is cut. */
+/* Where the unit has the sense of cut data: a packet that cuts a Write again. */
 static uint32_t cut_again(board *board, unsigned event)
 {
     return event == 0 ? board_send(board, board->medium, 4) : UINT32_MAX;
@@ -196,7 +198,7 @@ static void expect_written(const board *configured, uint8_t unit)
     board_refused(&board);
 }
 
-/* A Write whose data is cut, to a unit that has the sense of that already. */
+/* A Write is cut whose unit has the sense of that already. */
 static void expect_cut(const board *configured, uint8_t unit)
 {
     board board = *configured;

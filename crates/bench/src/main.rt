@@ -10,9 +10,8 @@ use std::io::{Read, Write};
 // One byte more than a recording may have, so that a longer input is seen to be longer.
 const MOST_READ: usize = 16385;
 
-// Each of the two has a frame of its own, so that the stack need not hold what reading takes beside what playing takes.
-
-// Puts the input's bytes at the start of an array and returns how many.
+// Puts the input's bytes at the start of an array and returns how many. Neither it nor `play_to` is inlined, so that the stack
+// does not hold what copying takes beside the arrays of playing.
 #[inline(never)]
 fn load(from: &mut impl Read, input: &mut [u8; MOST_READ]) -> io::Result<usize>
     ensures { IfOk result (λ n. n ≤ MOST_READ) }
@@ -25,7 +24,7 @@ fn load(from: &mut impl Read, input: &mut [u8; MOST_READ]) -> io::Result<usize>
 
 // Plays a recording and writes what is printed of it.
 #[inline(never)]
-fn replay(out: &mut impl Write, recording: &[u8]) -> io::Result<()> {
+fn play_to(out: &mut impl Write, recording: &[u8]) -> io::Result<()> {
     let mut medium = [0; MEDIUM];
     let mut text = [0; ROOM];
     let end = play(recording, &mut medium, &mut text);
@@ -35,5 +34,5 @@ fn replay(out: &mut impl Write, recording: &[u8]) -> io::Result<()> {
 fn main(rt: HostRuntime) -> io::Result<()> {
     let mut input = [0; MOST_READ];
     let got = load(&mut rt.stdin(), &mut input)?;
-    replay(&mut rt.stdout(), &input[..got])
+    play_to(&mut rt.stdout(), &input[..got])
 }

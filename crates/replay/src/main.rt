@@ -17,9 +17,10 @@ use std::{io, str};
 // One byte more than a recording may have, so that a longer file is seen to be longer.
 const MOST_READ: usize = 16385;
 
-// What a recording is read into and what is printed of it: lent to each in turn, since the stack is to hold them once.
+// What a recording is read into, and what is printed of it. They are lent to each recording in turn, so that the stack holds them
+// once.
 #[derive(Drop)]
-struct Room {
+struct Buffers {
     input: [u8; MOST_READ],
     text: [u8; ROOM],
 }
@@ -43,29 +44,29 @@ fn load(rt: &impl Files, name: &[u8], input: &mut [u8; MOST_READ]) -> usize
 fn replay<P: FnOnce(&[u8], &mut [u8; ROOM]) -> usize>(
     rt: &impl Files,
     out: &mut impl Write,
-    room: &mut Room,
+    buffers: &mut Buffers,
     name: &[u8],
     play: P,
 ) -> io::Result<()>
     requires called { P.IsAlwaysCallable play }
     requires within { (s : _) (t : _) (end : _) (u : _) → P.post play s t end u → end ≤ ROOM }
 {
-    let got = load(rt, name, &mut room.input);
-    let end = play(&room.input[..got], &mut room.text);
+    let got = load(rt, name, &mut buffers.input);
+    let end = play(&buffers.input[..got], &mut buffers.text);
     out.write_all(name)?;
     writeln!(out)?;
-    out.write_all(&room.text[..end])
+    out.write_all(&buffers.text[..end])
 }
 
 fn over(
     rt: &impl Files,
     out: &mut impl Write,
-    room: &mut Room,
+    buffers: &mut Buffers,
     name: &[u8],
     units: &mut [LogicalUnit],
     medium: &mut [u8],
 ) -> io::Result<()> {
-    replay(rt, out, room, name, |input, text| {
+    replay(rt, out, buffers, name, |input, text| {
         play_over(input, units, medium, text)
     })
 }
@@ -73,17 +74,17 @@ fn over(
 fn on_the_bench(
     rt: &impl Files,
     out: &mut impl Write,
-    room: &mut Room,
+    buffers: &mut Buffers,
     name: &[u8],
 ) -> io::Result<()> {
-    replay(rt, out, room, name, |input, text| {
+    replay(rt, out, buffers, name, |input, text| {
         play(input, &mut [0; MEDIUM], text)
     })
 }
 
 fn main(rt: HostRuntime) -> io::Result<()> {
     let mut out = rt.stdout();
-    let room = &mut Room {
+    let buffers = &mut Buffers {
         input: [0; MOST_READ],
         text: [0; ROOM],
     };
@@ -93,7 +94,7 @@ fn main(rt: HostRuntime) -> io::Result<()> {
     over(
         &rt,
         &mut out,
-        room,
+        buffers,
         &argument[..first],
         sheet,
         &mut [0; 65536],
@@ -108,9 +109,9 @@ fn main(rt: HostRuntime) -> io::Result<()> {
         let name = &argument[..length];
         if name.starts_with(b"units-") {
             let units = &mut [part(0, 64), part(64, 7), part(71, 1), part(72, 128)];
-            over(&rt, &mut out, room, name, units, &mut [0; 102400])?;
+            over(&rt, &mut out, buffers, name, units, &mut [0; 102400])?;
         } else {
-            on_the_bench(&rt, &mut out, room, name)?;
+            on_the_bench(&rt, &mut out, buffers, name)?;
         }
     }
     Ok(())
